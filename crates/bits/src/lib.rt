@@ -1,0 +1,1 @@
+// Bits of numbers: definitions and laws only, in specs/.

@@ -1,0 +1,1 @@
+// Bytes and UTF-8: definitions only, in specs/.

@@ -1,0 +1,1 @@
+// The record grammar: definitions and theorems only, in specs/.

@@ -1,0 +1,172 @@
+-- The part of RFC 9535 that is taken (document 01, "The part of RFC 9535"), as syntax trees and the bytes that they are written as.
+use mathlib.Core.Path.{_≡_}
+use mathlib.Core.List.{List, [], _∷_}
+use mathlib.Core.Bool.{Bool, true, false}
+use Prim.Native.Nat.{ℕ, _≤_}
+use lib.ListN.{length}
+use Rattle.encoding.specs.Bytes.{In, Blanks, putBlanks}
+use Rattle.encoding.specs.Utf8.{Wide, putWide}
+use Rattle.query.specs.Steps.{Selector, Step}
+use Rattle.query.specs.Steps as S
+
+-- RFC 9535 §2.5.1.1: name-first = ALPHA / "_" / %x80-10FFFF
+pub data First : Type 0 where
+  upper : In 0x41 0x5A → First
+  lower : In 0x61 0x7A → First
+  underscore : First
+  wide : Wide → First
+
+-- name-char = name-first / DIGIT
+pub data Later : Type 0 where
+  first : First → Later
+  digit : In 0x30 0x39 → Later
+
+-- the two quotes that a quoted name may stand in
+pub data Quote : Type 0 where
+  single double : Quote
+
+abbrev pub quoteByte : Quote → ℕ
+quoteByte single = 0x27
+quoteByte double = 0x22
+
+-- the byte before the quote, and the byte after it
+abbrev pub beforeQuote : Quote → ℕ
+beforeQuote single = 0x26
+beforeQuote double = 0x21
+
+abbrev pub afterQuote : Quote → ℕ
+afterQuote single = 0x28
+afterQuote double = 0x23
+
+-- a character of a quoted name: no control below 20, no backslash, not its own quote
+pub data Char (q : Quote) : Type 0 where
+  low : In 0x20 (beforeQuote q) → Char q
+  mid : In (afterQuote q) 0x5B → Char q
+  high : In 0x5D 0x7F → Char q
+  wide : Wide → Char q
+
+-- what a step takes, behind `.` or `..`: member-name-shorthand / wildcard-selector
+pub data Short : Type 0 where
+  star : Short
+  shorthand : First → List Later → Short
+
+-- and in brackets: name-selector / wildcard-selector
+pub data Inner : Type 0 where
+  star : Inner
+  quoted : (q : Quote) → List (Char q) → Inner
+
+-- a plain step, or a deep one, written with `..`
+pub data Depth : Type 0 where
+  plain deep : Depth
+
+pub data Segment : Type 0 where
+  dotted : Depth → Short → Segment
+  bracketed : Depth → Blanks → Inner → Blanks → Segment
+
+-- a step with the blanks before it
+pub record Spaced : Type 0 where
+  pub before : Blanks
+  pub segment : Segment
+
+-- `$` and then steps; the `$` needs no tree
+abbrev pub Query : Type 0
+Query = List Spaced
+
+-- each `put x s` is the bytes of x with s after them
+
+unfoldable pub putFirst : First → List ℕ → List ℕ
+unfolding putWide
+putFirst (upper x) s = x .byte ∷ s
+putFirst (lower x) s = x .byte ∷ s
+putFirst underscore s = 0x5F ∷ s
+putFirst (wide p) s = putWide p s
+
+unfoldable pub putLater : Later → List ℕ → List ℕ
+unfolding putFirst
+putLater (first x) s = putFirst x s
+putLater (digit x) s = x .byte ∷ s
+
+unfoldable pub putLaters : List Later → List ℕ → List ℕ
+unfolding putLater
+putLaters [] s = s
+putLaters (c ∷ cs) s = putLater c (putLaters cs s)
+
+unfoldable pub putChar : {q : Quote} → Char q → List ℕ → List ℕ
+unfolding putWide
+putChar (low x) s = x .byte ∷ s
+putChar (mid x) s = x .byte ∷ s
+putChar (high x) s = x .byte ∷ s
+putChar (wide p) s = putWide p s
+
+unfoldable pub putChars : {q : Quote} → List (Char q) → List ℕ → List ℕ
+unfolding putChar
+putChars [] s = s
+putChars (c ∷ cs) s = putChar c (putChars cs s)
+
+unfoldable pub putShort : Short → List ℕ → List ℕ
+unfolding putFirst putLaters
+putShort star s = 0x2A ∷ s
+putShort (shorthand x cs) s = putFirst x (putLaters cs s)
+
+unfoldable pub putInner : Inner → List ℕ → List ℕ
+unfolding putChars
+putInner star s = 0x2A ∷ s
+putInner (quoted q cs) s = quoteByte q ∷ putChars cs (quoteByte q ∷ s)
+
+-- before a shorthand name or `*`; `..` alone stands before brackets
+unfoldable pub putDots : Depth → List ℕ → List ℕ
+putDots plain s = 0x2E ∷ s
+putDots deep s = 0x2E ∷ 0x2E ∷ s
+
+unfoldable pub putDeep : Depth → List ℕ → List ℕ
+putDeep plain s = s
+putDeep deep s = 0x2E ∷ 0x2E ∷ s
+
+unfoldable pub putSegment : Segment → List ℕ → List ℕ
+unfolding putBlanks putShort putInner putDots putDeep
+putSegment (dotted d x) s = putDots d (putShort x s)
+putSegment (bracketed d w i w′) s = putDeep d (0x5B ∷ putBlanks w (putInner i (putBlanks w′ (0x5D ∷ s))))
+
+unfoldable pub putSpaced : Spaced → List ℕ → List ℕ
+unfolding putBlanks putSegment
+putSpaced x s = putBlanks (x .before) (putSegment (x .segment) s)
+
+unfoldable pub putQuery : Query → List ℕ → List ℕ
+unfolding putSpaced
+putQuery [] s = s
+putQuery (x ∷ xs) s = putSpaced x (putQuery xs s)
+
+unfoldable pub text : Query → List ℕ
+unfolding putQuery
+text t = 0x24 ∷ putQuery t []
+
+-- s is a query of the grammar
+pub record QueryText (s : List ℕ) : Type 0 where
+  pub tree : Query
+  pub written : text tree ≡ s
+
+-- what a written step is: names are their bytes as written
+abbrev pub isDeep : Depth → Bool
+isDeep plain = false
+isDeep deep = true
+
+unfoldable pub shortSelector : Short → Selector
+unfolding putFirst putLaters
+shortSelector star = S.every
+shortSelector (shorthand x cs) = S.name (putFirst x (putLaters cs []))
+
+unfoldable pub innerSelector : Inner → Selector
+unfolding putChars
+innerSelector star = S.every
+innerSelector (quoted q cs) = S.name (putChars cs [])
+
+unfoldable pub segmentStep : Segment → Step
+unfolding shortSelector innerSelector
+segmentStep (dotted d x) = record { deep = isDeep d; selector = shortSelector x }
+segmentStep (bracketed d w i w′) = record { deep = isDeep d; selector = innerSelector i }
+
+-- the steps of a query, in order
+unfoldable pub stepsOf : Query → List Step
+unfolding segmentStep
+stepsOf [] = []
+stepsOf (x ∷ xs) = segmentStep (x .segment) ∷ stepsOf xs

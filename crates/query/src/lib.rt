@@ -1,0 +1,1 @@
+// The query grammar: definitions and theorems only, in specs/.

@@ -1,0 +1,6 @@
+pub mod Nodes
+pub mod Picked
+pub mod Marks
+pub mod Visits
+pub mod Ways
+pub mod Nodelist

@@ -1,0 +1,48 @@
+-- RFC 9535's own account of a query: nodelists, segment by segment, with repetitions (§2.1.2 and §2.5).
+use mathlib.Core.List.{List, [], _∷_, _++_}
+use mathlib.Core.Bool.{Bool, true, false}
+use Rattle.json.specs.Grammar.{Tree}
+use Rattle.query.specs.Steps.{Selector, Step}
+use Rattle.select.specs.Nodes.{Node, root, Child, children}
+use Rattle.select.specs.Visits.{Visit, Way, step, nodeVisits}
+use Rattle.select.specs.Ways.{hits}
+
+unfoldable pub nodeIf : Bool → Node → List Node → List Node
+nodeIf true n ns = n ∷ ns
+nodeIf false n ns = ns
+
+-- §2.3: the children that a selector takes, in order
+unfoldable pub selected : Selector → List Child → List Node
+unfolding hits nodeIf
+selected sel [] = []
+selected sel (c ∷ cs) = nodeIf (hits sel (c .label)) (c .node) (selected sel cs)
+
+unfoldable pub visitedNodes : List (Visit Way) → List Node
+visitedNodes [] = []
+visitedNodes (v ∷ vs) = v .node ∷ visitedNodes vs
+
+-- §2.5.2.2: the input value and its descendants, each before its children, children in order
+unfoldable pub descendants : Node → List Node
+unfolding nodeVisits visitedNodes
+descendants n = visitedNodes (nodeVisits step n [])
+
+-- the results for all nodes, one after the other
+unfoldable pub concatMap : (Node → List Node) → List Node → List Node
+concatMap f [] = []
+concatMap f (n ∷ ns) = f n ++ concatMap f ns
+
+-- §2.5.1.2 and §2.5.2.2: a child segment, and a descendant segment, applied to one node
+unfoldable pub segment : (deep : Bool) → Selector → Node → List Node
+unfolding selected descendants concatMap children
+segment false sel n = selected sel (children n)
+segment true sel n = concatMap (λ m. selected sel (children m)) (descendants n)
+
+-- §2.1.2: each segment is applied to the nodelist that the segments before it gave
+unfoldable pub applied : List Step → List Node → List Node
+unfolding segment concatMap
+applied [] ns = ns
+applied (s ∷ q) ns = applied q (concatMap (segment (s .deep) (s .selector)) ns)
+
+unfoldable pub nodelist : Tree → List Step → List Node
+unfolding applied root
+nodelist t q = applied q (root t ∷ [])

@@ -1,0 +1,1 @@
+// What a query picks out: definitions and theorems only, in specs/.
