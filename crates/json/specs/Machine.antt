@@ -3,8 +3,8 @@ use mathlib.Core.List.{List, [], _∷_}
 use mathlib.Core.Bool.{Bool, true, false, _&&_}
 use mathlib.Core.Option.{Option, some, none}
 use Prim.Native.Nat.{ℕ, zero, suc}
-use lib.Dec.{leb, eqb}
-use Rattle.json.specs.Grammar.{Kind, array, object, closing}
+use lib.Dec.{leb}
+use Rattle.json.specs.Grammar.{Kind, array, object, opening, closing}
 use Rattle.json.specs.Room.{Room, left, endless, wider}
 
 -- what may follow the first byte of a code point from 80 (hexadecimal) on: any byte of 80-BF, or fewer after E0, ED, F0, F4
@@ -58,46 +58,59 @@ pub data State : Type 0 where
   dead : State
   at : Ctl → Stack → Room → State
 
-pub data Act : Type 0 where
-  go : Ctl → Act
-  enter : Kind → Act
-  leave : Act
-
 abbrev pub entered : Kind → Stack → Room → State
 entered x k (left zero) = dead
 entered x k (left (suc n)) = at (item x true) (x ∷ k) (left n)
 entered x k endless = at (item x true) (x ∷ k) endless
 
-abbrev pub apply : Act → Stack → Room → State
-apply (go c) k ρ = at c k ρ
-apply (enter x) k ρ = entered x k ρ
-apply leave k ρ = at after (pop k) (wider ρ)
-
--- a byte, or the bytes of a range, and what they do
+-- which bytes a control state takes and where they lead
 pub data Rule : Type 0 where
-  one : ℕ → Act → Rule
-  span : ℕ → ℕ → Act → Rule
+  one : ℕ → Ctl → Rule  -- a byte, and what is due after it
+  span : ℕ → ℕ → Ctl → Rule  -- the bytes of a range
+  opens : Kind → Rule  -- the opening bracket of a container
+  closes : Kind → Rule  -- the closing bracket of the container around
+
+abbrev pub lowest : Rule → ℕ
+lowest (one n c) = n
+lowest (span lo hi c) = lo
+lowest (opens x) = opening x
+lowest (closes x) = closing x
+
+abbrev pub highest : Rule → ℕ
+highest (one n c) = n
+highest (span lo hi c) = hi
+highest (opens x) = opening x
+highest (closes x) = closing x
+
+abbrev pub takes : Rule → ℕ → Bool
+takes r b = leb (lowest r) b && leb b (highest r)
+
+abbrev pub apply : Rule → Stack → Room → State
+apply (one n c) k ρ = at c k ρ
+apply (span lo hi c) k ρ = at c k ρ
+apply (opens x) k ρ = entered x k ρ
+apply (closes x) k ρ = at after (pop k) (wider ρ)
 
 abbrev pub blankRules : Ctl → List Rule → List Rule
-blankRules c rs = one 0x20 (go c) ∷ one 0x0A (go c) ∷ one 0x0D (go c) ∷ one 0x09 (go c) ∷ rs
+blankRules c rs = one 0x20 c ∷ one 0x0A c ∷ one 0x0D c ∷ one 0x09 c ∷ rs
 
 abbrev pub closeRules : Bool → Kind → List Rule
-closeRules true x = one (closing x) leave ∷ []
+closeRules true x = closes x ∷ []
 closeRules false x = []
 
 -- what may follow an item in a container, or the value of the text
 abbrev pub separatorRules : Option Kind → List Rule
 separatorRules none = []
-separatorRules (some x) = one 0x2C (go (item x false)) ∷ one (closing x) leave ∷ []
+separatorRules (some x) = one 0x2C (item x false) ∷ closes x ∷ []
 
 abbrev pub afterRules : Option Kind → List Rule
 afterRules o = blankRules after (separatorRules o)
 
 abbrev pub exponentRules : List Rule → List Rule
-exponentRules rs = one 0x65 (go afterE) ∷ one 0x45 (go afterE) ∷ rs
+exponentRules rs = one 0x65 afterE ∷ one 0x45 afterE ∷ rs
 
 abbrev pub hexRules : Ctl → List Rule
-hexRules c = span 0x30 0x39 (go c) ∷ span 0x41 0x46 (go c) ∷ span 0x61 0x66 (go c) ∷ []
+hexRules c = span 0x30 0x39 c ∷ span 0x41 0x46 c ∷ span 0x61 0x66 c ∷ []
 
 -- after the closing quote
 abbrev pub closed : Bool → Ctl
@@ -107,51 +120,43 @@ closed false = after
 -- what each control state takes: the first rule that has the byte
 abbrev pub rules : Ctl → Option Kind → List Rule
 rules (item array f) o =
-    span 0x31 0x39 (go inInt) ∷
+    span 0x31 0x39 inInt ∷
     blankRules (item array f)
-    (one 0x30 (go afterZero) ∷ one 0x2D (go afterMinus) ∷ one 0x22 (go (inString false)) ∷
-    one 0x66 (go (wordDue 0x61 (0x6C ∷ 0x73 ∷ 0x65 ∷ []))) ∷ one 0x6E (go (wordDue 0x75 (0x6C ∷ 0x6C ∷ []))) ∷ one 0x74 (go (wordDue 0x72 (0x75 ∷ 0x65 ∷ []))) ∷
-    one 0x5B (enter array) ∷ one 0x7B (enter object) ∷ closeRules f array)
-rules (item object f) o = blankRules (item object f) (one 0x22 (go (inString true)) ∷ closeRules f object)
-rules colon o = blankRules colon (one 0x3A (go valueDue) ∷ [])
+    (one 0x30 afterZero ∷ one 0x2D afterMinus ∷ one 0x22 (inString false) ∷
+    one 0x66 (wordDue 0x61 (0x6C ∷ 0x73 ∷ 0x65 ∷ [])) ∷ one 0x6E (wordDue 0x75 (0x6C ∷ 0x6C ∷ [])) ∷ one 0x74 (wordDue 0x72 (0x75 ∷ 0x65 ∷ [])) ∷
+    opens array ∷ opens object ∷ closeRules f array)
+rules (item object f) o = blankRules (item object f) (one 0x22 (inString true) ∷ closeRules f object)
+rules colon o = blankRules colon (one 0x3A valueDue ∷ [])
 rules after o = afterRules o
 rules (inString f) o =
-    span 0x20 0x21 (go (inString f)) ∷ span 0x23 0x5B (go (inString f)) ∷ span 0x5D 0x7F (go (inString f)) ∷
-    one 0x22 (go (closed f)) ∷ one 0x5C (go (escaping f)) ∷
-    span 0xC2 0xDF (go (tailDue anyTail 0 f)) ∷
-    span 0xE0 0xE0 (go (tailDue afterE0 1 f)) ∷ span 0xE1 0xEC (go (tailDue anyTail 1 f)) ∷
-    span 0xED 0xED (go (tailDue afterED 1 f)) ∷ span 0xEE 0xEF (go (tailDue anyTail 1 f)) ∷
-    span 0xF0 0xF0 (go (tailDue afterF0 2 f)) ∷ span 0xF1 0xF3 (go (tailDue anyTail 2 f)) ∷ span 0xF4 0xF4 (go (tailDue afterF4 2 f)) ∷ []
+    span 0x20 0x21 (inString f) ∷ span 0x23 0x5B (inString f) ∷ span 0x5D 0x7F (inString f) ∷
+    one 0x22 (closed f) ∷ one 0x5C (escaping f) ∷
+    span 0xC2 0xDF (tailDue anyTail 0 f) ∷
+    span 0xE0 0xE0 (tailDue afterE0 1 f) ∷ span 0xE1 0xEC (tailDue anyTail 1 f) ∷
+    span 0xED 0xED (tailDue afterED 1 f) ∷ span 0xEE 0xEF (tailDue anyTail 1 f) ∷
+    span 0xF0 0xF0 (tailDue afterF0 2 f) ∷ span 0xF1 0xF3 (tailDue anyTail 2 f) ∷ span 0xF4 0xF4 (tailDue afterF4 2 f) ∷ []
 rules (escaping f) o =
-    one 0x22 (go (inString f)) ∷ one 0x5C (go (inString f)) ∷ one 0x2F (go (inString f)) ∷ one 0x62 (go (inString f)) ∷
-    one 0x66 (go (inString f)) ∷ one 0x6E (go (inString f)) ∷ one 0x72 (go (inString f)) ∷ one 0x74 (go (inString f)) ∷
-    one 0x75 (go (hexDue 3 f)) ∷ []
+    one 0x22 (inString f) ∷ one 0x5C (inString f) ∷ one 0x2F (inString f) ∷ one 0x62 (inString f) ∷
+    one 0x66 (inString f) ∷ one 0x6E (inString f) ∷ one 0x72 (inString f) ∷ one 0x74 (inString f) ∷
+    one 0x75 (hexDue 3 f) ∷ []
 rules (hexDue zero f) o = hexRules (inString f)
 rules (hexDue (suc n) f) o = hexRules (hexDue n f)
-rules (tailDue p zero f) o = span (secondLow p) (secondHigh p) (go (inString f)) ∷ []
-rules (tailDue p (suc n) f) o = span (secondLow p) (secondHigh p) (go (tailDue anyTail n f)) ∷ []
-rules (wordDue b []) o = one b (go after) ∷ []
-rules (wordDue b (b′ ∷ bs)) o = one b (go (wordDue b′ bs)) ∷ []
-rules afterMinus o = span 0x31 0x39 (go inInt) ∷ one 0x30 (go afterZero) ∷ []
-rules afterZero o = one 0x2E (go afterPoint) ∷ exponentRules (afterRules o)
-rules inInt o = span 0x30 0x39 (go inInt) ∷ one 0x2E (go afterPoint) ∷ exponentRules (afterRules o)
-rules afterPoint o = span 0x30 0x39 (go inFrac) ∷ []
-rules inFrac o = span 0x30 0x39 (go inFrac) ∷ exponentRules (afterRules o)
-rules afterE o = span 0x30 0x39 (go inExp) ∷ one 0x2B (go afterSign) ∷ one 0x2D (go afterSign) ∷ []
-rules afterSign o = span 0x30 0x39 (go inExp) ∷ []
-rules inExp o = span 0x30 0x39 (go inExp) ∷ afterRules o
-
-abbrev pub takes : Rule → ℕ → Bool
-takes (one n a) b = eqb n b
-takes (span lo hi a) b = leb lo b && leb b hi
-
-abbrev pub act : Rule → Act
-act (one n a) = a
-act (span lo hi a) = a
+rules (tailDue p zero f) o = span (secondLow p) (secondHigh p) (inString f) ∷ []
+rules (tailDue p (suc n) f) o = span (secondLow p) (secondHigh p) (tailDue anyTail n f) ∷ []
+rules (wordDue b []) o = one b after ∷ []
+rules (wordDue b (b′ ∷ bs)) o = one b (wordDue b′ bs) ∷ []
+rules afterMinus o = span 0x31 0x39 inInt ∷ one 0x30 afterZero ∷ []
+rules afterZero o = one 0x2E afterPoint ∷ exponentRules (afterRules o)
+rules inInt o = span 0x30 0x39 inInt ∷ one 0x2E afterPoint ∷ exponentRules (afterRules o)
+rules afterPoint o = span 0x30 0x39 inFrac ∷ []
+rules inFrac o = span 0x30 0x39 inFrac ∷ exponentRules (afterRules o)
+rules afterE o = span 0x30 0x39 inExp ∷ one 0x2B afterSign ∷ one 0x2D afterSign ∷ []
+rules afterSign o = span 0x30 0x39 inExp ∷ []
+rules inExp o = span 0x30 0x39 inExp ∷ afterRules o
 
 unfoldable pub pick : List Rule → ℕ → Stack → Room → State
 pick [] b k ρ = dead
-pick (r ∷ rs) b k ρ = elim (takes r b) [ true ↦ apply (act r) k ρ | false ↦ pick rs b k ρ ]
+pick (r ∷ rs) b k ρ = elim (takes r b) [ true ↦ apply r k ρ | false ↦ pick rs b k ρ ]
 
 unfoldable pub step : State → ℕ → State
 unfolding pick

@@ -2,10 +2,11 @@
 -- `Rest c k ρ s`: s completes a text from the control state c with the stack k and the room ρ; each rule leads back into it.
 use mathlib.Core.Path.{_≡_, refl}
 use mathlib.Core.List.{List, [], _∷_, _++_}
-use mathlib.Core.Bool.{Bool, true, false, _&&_}
+use mathlib.Core.Bool.{Bool, true, false, _&&_, and-eq-true-iff}
 use Prim.Native.Nat.{ℕ, zero, suc, max, _≤_}
 use native.Mathlib.Omega.{arith}
-use lib.Dec.{T, leb, eqb, eqb→eq}
+use lib.Dec.{T, leb}
+use borrow.Author.Tests.{leb-true}
 use Rattle.encoding.specs.Bytes as B
 use Rattle.encoding.specs.Bytes.{In, putIn, Blank, Blanks, blankByte, putBlanks}
 use Rattle.encoding.specs.Utf8 as U
@@ -15,7 +16,7 @@ use Rattle.json.specs.Grammar.{Digit, Int, Frac, Exp, ExpSign, E, eByte,
 use Rattle.json.specs.Grammar.{putInt, putFrac, putExp, putExpSign, putMinus, putChar, putChars, putString, putKey, putValue, putItems, putMore, text, nesting, itemsNesting, moreNesting}
 use Rattle.json.specs.Room.{Room, left, endless, Fits, Within, wider, Texts, fits-nothing, fits-max, fits-more}
 use Rattle.json.specs.Machine.{Second, anyTail, afterE0, afterED, afterF0, afterF4, secondLow, secondHigh, Ctl, item, colon, after, inString, escaping, hexDue, tailDue, wordDue, afterMinus, afterZero, inInt, afterPoint, inFrac, afterE, afterSign, inExp}
-use Rattle.json.specs.Machine.{Stack, top, pop, State, dead, at, Act, go, enter, leave, entered, apply, Rule, one, span, closeRules, afterRules, hexRules, closed, rules, takes, act, pick, step, run, final, isEmpty, accept, start}
+use Rattle.json.specs.Machine.{Stack, top, pop, State, dead, at, entered, Rule, one, span, opens, closes, apply, closeRules, afterRules, hexRules, closed, rules, takes, pick, step, run, final, isEmpty, accept, start}
 
 -- after a value
 data After : Stack → Room → List ℕ → Type 0 where
@@ -104,8 +105,10 @@ RestOf (at c k ρ) s = Rest c k ρ s
 
 -- the rule leads back to L
 abbrev Back : (List ℕ → Type 0) → Stack → Room → Rule → Type 0
-Back L k ρ (one n a) = (s : List ℕ) → RestOf (apply a k ρ) s → L (n ∷ s)
-Back L k ρ (span lo hi a) = (b : In lo hi) (s : List ℕ) → RestOf (apply a k ρ) s → L (b .byte ∷ s)
+Back L k ρ (one n c) = (s : List ℕ) → Rest c k ρ s → L (n ∷ s)
+Back L k ρ (span lo hi c) = (b : In lo hi) (s : List ℕ) → Rest c k ρ s → L (b .byte ∷ s)
+Back L k ρ (opens x) = (s : List ℕ) → RestOf (entered x k ρ) s → L (opening x ∷ s)
+Back L k ρ (closes x) = (s : List ℕ) → After (pop k) (wider ρ) s → L (closing x ∷ s)
 
 abbrev Backs : (List ℕ → Type 0) → Stack → Room → List Rule → Type 0
 Backs L k ρ [] = Unit {0}
@@ -114,24 +117,33 @@ Backs L k ρ (r ∷ rs) = Back L k ρ r × Backs L k ρ rs
 so : {b : Bool} → b ≡ true → T b
 so e = rw e tt
 
-back-rule : (L : List ℕ → Type 0) (k : Stack) (ρ : Room) (r : Rule) (b : ℕ) (s : List ℕ) → Back L k ρ r → takes r b ≡ true → RestOf (apply (act r) k ρ) s → L (b ∷ s)
-back-rule L k ρ (one n a) b s h e r = rw (eqb→eq n b (so e)) at (h s r)
-back-rule L k ρ (span lo hi a) b s h e r = h (record { byte = b; ok = so e }) s r
+the-byte : (n b : ℕ) → leb n b && leb b n ≡ true → n ≡ b
+the-byte n b e =
+    let q = and-eq-true-iff (leb n b) (leb b n) .0 e in
+    omega (arith, leb-true n b (q .0), leb-true b n (q .1))
+
+back-rule : (L : List ℕ → Type 0) (k : Stack) (ρ : Room) (r : Rule) (b : ℕ) (s : List ℕ) → Back L k ρ r → takes r b ≡ true → RestOf (apply r k ρ) s → L (b ∷ s)
+back-rule L k ρ (one n c) b s h e r = rw (the-byte n b e) at (h s r)
+back-rule L k ρ (span lo hi c) b s h e r = h (record { byte = b; ok = so e }) s r
+back-rule L k ρ (opens x) b s h e r = rw (the-byte (opening x) b e) at (h s r)
+back-rule L k ρ (closes x) b s h e r = rw (the-byte (closing x) b e) at (h s r)
 
 back-pick : (L : List ℕ → Type 0) (k : Stack) (ρ : Room) (rs : List Rule) (b : ℕ) (s : List ℕ) → Backs L k ρ rs → RestOf (pick rs b k ρ) s → L (b ∷ s)
 unfolding pick
 back-pick L k ρ [] b s h r = absurd r
 back-pick L k ρ (x ∷ rs) b s h r = by (takes x b) refl r (λ q. back-pick L k ρ rs b s (h .1) q)
   where
-    by : (t : Bool) → takes x b ≡ t → RestOf (elim t [ true ↦ apply (act x) k ρ | false ↦ pick rs b k ρ ]) s → (RestOf (pick rs b k ρ) s → L (b ∷ s)) → L (b ∷ s)
+    by : (t : Bool) → takes x b ≡ t → RestOf (elim t [ true ↦ apply x k ρ | false ↦ pick rs b k ρ ]) s → (RestOf (pick rs b k ρ) s → L (b ∷ s)) → L (b ∷ s)
     by true e q again = back-rule L k ρ x b s (h .0) e q
     by false e q again = again q
 
 -- through an inclusion
 widen : (L M : List ℕ → Type 0) (k : Stack) (ρ : Room) (rs : List Rule) → ((s : List ℕ) → L s → M s) → Backs L k ρ rs → Backs M k ρ rs
 widen L M k ρ [] f h = tt
-widen L M k ρ (one n a ∷ rs) f h = ((λ s r. f (n ∷ s) (h .0 s r)), widen L M k ρ rs f (h .1))
-widen L M k ρ (span lo hi a ∷ rs) f h = ((λ b s r. f (b .byte ∷ s) (h .0 b s r)), widen L M k ρ rs f (h .1))
+widen L M k ρ (one n c ∷ rs) f h = ((λ s r. f (n ∷ s) (h .0 s r)), widen L M k ρ rs f (h .1))
+widen L M k ρ (span lo hi c ∷ rs) f h = ((λ b s r. f (b .byte ∷ s) (h .0 b s r)), widen L M k ρ rs f (h .1))
+widen L M k ρ (opens x ∷ rs) f h = ((λ s r. f (opening x ∷ s) (h .0 s r)), widen L M k ρ rs f (h .1))
+widen L M k ρ (closes x ∷ rs) f h = ((λ s r. f (closing x ∷ s) (h .0 s r)), widen L M k ρ rs f (h .1))
 
 -- after a value
 after-blank : {k : Stack} {ρ : Room} (b : Blank) (s : List ℕ) → After k ρ s → After k ρ (blankByte b ∷ s)
