@@ -91,9 +91,7 @@ step-in c k ρ {lo} {hi} b st e = step-range c k ρ lo hi (b .byte) st e (in-low
 -- the first rule that has the byte, by what is known of the byte; none where no rule has it
 pub data Picks : List Rule → ℕ → Option Rule → Type 0 where
   inside : {b : ℕ} {r : Rule} {rs : List Rule} → lowest r ≤ b → b ≤ highest r → Picks (r ∷ rs) b (some r)
-  below : {b : ℕ} {r : Rule} {o : Option Rule} {rs : List Rule} → b < lowest r → Picks rs b o → Picks (r ∷ rs) b o
-  above : {b : ℕ} {r : Rule} {o : Option Rule} {rs : List Rule} → highest r < b → Picks rs b o → Picks (r ∷ rs) b o
-  apart : {b : ℕ} {r : Rule} {o : Option Rule} {rs : List Rule} → (lowest r ≡ b → ⊥) → lowest r ≡ highest r → Picks rs b o → Picks (r ∷ rs) b o
+  past : {b : ℕ} {r : Rule} {o : Option Rule} {rs : List Rule} → (lowest r ≤ b → b ≤ highest r → ⊥) → Picks rs b o → Picks (r ∷ rs) b o
   nowhere : {b : ℕ} → Picks [] b none
 
 abbrev pub picked : Option Rule → Stack → Room → State
@@ -103,9 +101,7 @@ picked (some r) k ρ = apply r k ρ
 picks : {rs : List Rule} {b : ℕ} {o : Option Rule} (k : Stack) (ρ : Room) → Picks rs b o → pick rs b k ρ ≡ picked o k ρ
 unfolding pick
 picks k ρ (inside {b} {r} {rs} p q) = pick-this r rs b k ρ (between-takes r b p q)
-picks k ρ (below {b} {r} {o} {rs} p q) = pick-later r rs b k ρ (apart-takes r b (λ l h. omega arith)) ∙ picks k ρ q
-picks k ρ (above {b} {r} {o} {rs} p q) = pick-later r rs b k ρ (apart-takes r b (λ l h. omega arith)) ∙ picks k ρ q
-picks k ρ (apart {b} {r} {o} {rs} p e q) = pick-later r rs b k ρ (apart-takes r b (λ l h. p (omega arith))) ∙ picks k ρ q
+picks k ρ (past {b} {r} {o} {rs} f p) = pick-later r rs b k ρ (apart-takes r b f) ∙ picks k ρ p
 picks k ρ nowhere = refl
 
 pub step-by : (c : Ctl) (k : Stack) (ρ : Room) {b : ℕ} {o : Option Rule} → Picks (rules c (top k)) b o → step (at c k ρ) b ≡ picked o k ρ
@@ -119,9 +115,7 @@ step-over c k ρ {b} rs e p = rw e (later rs p)
   where
     later : (qs : List Rule) → Picks qs b none → pick (qs ++ afterRules (top k)) b k ρ ≡ pick (afterRules (top k)) b k ρ
     later [] nowhere = refl
-    later (r ∷ qs) (below l p′) = pick-later r (qs ++ afterRules (top k)) b k ρ (apart-takes r b (λ x y. omega arith)) ∙ later qs p′
-    later (r ∷ qs) (above l p′) = pick-later r (qs ++ afterRules (top k)) b k ρ (apart-takes r b (λ x y. omega arith)) ∙ later qs p′
-    later (r ∷ qs) (apart n e′ p′) = pick-later r (qs ++ afterRules (top k)) b k ρ (apart-takes r b (λ x y. n (omega arith))) ∙ later qs p′
+    later (r ∷ qs) (past f q) = pick-later r (qs ++ afterRules (top k)) b k ρ (apart-takes r b f) ∙ later qs q
 
 -- blanks, brackets, commas
 pub item-blank : (x : Kind) (f : Bool) (k : Stack) (ρ : Room) (b : Blank) → step (at (item x f) k ρ) (blankByte b) ≡ at (item x f) k ρ
@@ -167,3 +161,31 @@ pub after-close : (x : Kind) (k : Stack) (ρ : Room) → step (at after (x ∷ k
 unfolding step
 after-close array k ρ = refl
 after-close object k ρ = refl
+
+-- what a byte does in a room and without a limit: the same, unless it is an opening bracket that has no room
+pub data Freed (b : ℕ) : State → State → Type 0 where
+  both-dead : Freed b dead dead
+  alike : {c : Ctl} {k : Stack} {ρ : Room} → Freed b (at c k ρ) (at c k endless)
+  no-room : {c : Ctl} {k : Stack} (x : Kind) → b ≡ opening x → Freed b dead (at c k endless)
+
+apply-freed : (r : Rule) (b : ℕ) (k : Stack) (ρ : Room) → takes r b ≡ true → Freed b (apply r k ρ) (apply r k endless)
+apply-freed (one n c) b k ρ e = alike
+apply-freed (span lo hi c) b k ρ e = alike
+apply-freed (opens x) b k (left zero) e = no-room x (omega (arith, takes-between (opens x) b e))
+apply-freed (opens x) b k (left (suc n)) e = alike
+apply-freed (opens x) b k endless e = alike
+apply-freed (closes x) b k ρ e = alike
+
+pick-freed : (rs : List Rule) (b : ℕ) (k : Stack) (ρ : Room) → Freed b (pick rs b k ρ) (pick rs b k endless)
+unfolding pick
+pick-freed [] b k ρ = both-dead
+pick-freed (r ∷ rs) b k ρ = by (takes r b) refl (pick-freed rs b k ρ)
+  where
+    by : (x : Bool) → takes r b ≡ x → Freed b (pick rs b k ρ) (pick rs b k endless) →
+        Freed b (elim x as (λ _. State) [ true ↦ apply r k ρ | false ↦ pick rs b k ρ ]) (elim x as (λ _. State) [ true ↦ apply r k endless | false ↦ pick rs b k endless ])
+    by true e again = apply-freed r b k ρ e
+    by false e again = again
+
+pub step-freed : (c : Ctl) (k : Stack) (ρ : Room) (b : ℕ) → Freed b (step (at c k ρ) b) (step (at c k endless) b)
+unfolding step
+step-freed c k ρ b = pick-freed (rules c (top k)) b k ρ
