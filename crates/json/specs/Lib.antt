@@ -1,5 +1,11 @@
 pub mod Append
+pub mod Complete
 pub mod Grammar
+pub mod Machine
+pub mod Place
 pub mod Read
-pub mod TreeOf
+pub mod Room
+pub mod Sound
+pub mod Steps
 pub mod TreeExamples
+pub mod TreeOf
