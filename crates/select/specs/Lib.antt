@@ -4,3 +4,4 @@ pub mod Marks
 pub mod Visits
 pub mod Ways
 pub mod Nodelist
+pub mod VisitsMap
