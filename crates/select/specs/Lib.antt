@@ -5,3 +5,5 @@ pub mod Visits
 pub mod Ways
 pub mod Nodelist
 pub mod VisitsMap
+pub mod Children
+pub mod Reach
