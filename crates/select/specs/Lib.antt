@@ -7,3 +7,5 @@ pub mod Nodelist
 pub mod VisitsMap
 pub mod Children
 pub mod Reach
+pub mod Truth
+pub mod PickedIs
