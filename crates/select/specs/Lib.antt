@@ -9,3 +9,4 @@ pub mod Children
 pub mod Reach
 pub mod Truth
 pub mod PickedIs
+pub mod Order
