@@ -10,3 +10,4 @@ pub mod Reach
 pub mod Truth
 pub mod PickedIs
 pub mod Order
+pub mod SpansAre

@@ -21,7 +21,7 @@ abbrev pub Rises : ℕ → List ℕ → ℕ → Type 0
 Rises a [] e = a ≤ e
 Rises a (x ∷ xs) e = (a ≤ x) × Rises (suc x) xs e
 
-rises-lower : (a b e : ℕ) (xs : List ℕ) → a ≤ b → Rises b xs e → Rises a xs e
+pub rises-lower : (a b e : ℕ) (xs : List ℕ) → a ≤ b → Rises b xs e → Rises a xs e
 rises-lower a b e [] h r = omega arith
 rises-lower a b e (x ∷ xs) h r = (omega (arith, r .0), r .1)
 
