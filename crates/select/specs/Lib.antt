@@ -11,3 +11,4 @@ pub mod Truth
 pub mod PickedIs
 pub mod Order
 pub mod SpansAre
+pub mod MarksStep
