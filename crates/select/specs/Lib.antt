@@ -12,3 +12,4 @@ pub mod PickedIs
 pub mod Order
 pub mod SpansAre
 pub mod MarksStep
+pub mod MarksAre
