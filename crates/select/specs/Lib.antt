@@ -13,3 +13,4 @@ pub mod Order
 pub mod SpansAre
 pub mod MarksStep
 pub mod MarksAre
+pub mod PeakIs
