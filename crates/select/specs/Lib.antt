@@ -4,3 +4,13 @@ pub mod Marks
 pub mod Visits
 pub mod Ways
 pub mod Nodelist
+pub mod VisitsMap
+pub mod Children
+pub mod Reach
+pub mod Truth
+pub mod PickedIs
+pub mod Order
+pub mod SpansAre
+pub mod MarksStep
+pub mod MarksAre
+pub mod PeakIs
