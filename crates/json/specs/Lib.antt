@@ -1,5 +1,5 @@
 pub mod Append
 pub mod Grammar
 pub mod Read
-pub mod TreeOf
 pub mod TreeExamples
+pub mod TreeOf
