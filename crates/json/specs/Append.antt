@@ -1,4 +1,4 @@
--- Laws of the writers: `put x s` is the bytes of x alone and then s, so that places and lengths can be counted. Assumes nothing.
+-- Laws of the writers: `put x s` is the bytes of x alone and then s, so that places and lengths can be counted.
 use mathlib.Core.Path.{_≡_, refl, ap, _∙_}
 use mathlib.Core.List.{List, [], _∷_, _++_}
 use Prim.Native.Nat.{ℕ, _+_, _<_}
@@ -8,7 +8,7 @@ use Rattle.encoding.specs.Bytes.{In, putIn, Blanks, blankByte, putBlanks}
 use Rattle.encoding.specs.Utf8 as U
 use Rattle.encoding.specs.Utf8.{Wide, putWide}
 use Rattle.json.specs.Grammar as G
-use Rattle.json.specs.Grammar.{Literal, Minus, Int, Frac, ExpSign, Exp, eByte, Char, Kind, Name, Key, opening, closing, Value, Items, More, Tree}
+use Rattle.json.specs.Grammar.{Literal, Minus, Int, Frac, ExpSign, Exp, Char, Kind, Name, Key, opening, closing, Value, Items, More, Tree}
 use Rattle.json.specs.Grammar.{putLiteral, putMinus, putInt, putFrac, putExpSign, putExp, putChar, putChars, putString, putKey, putValue, putItems, putMore, text}
 
 -- bytes appended to what stands after x are appended to the whole
@@ -224,7 +224,12 @@ length-more m s = length-parts (putMore m []) s (more-split m s)
 pub length-text : (t : Tree) → length (text t) ≡ length (t .before) + length (putValue (t .value) []) + length (t .after)
 unfolding text
 length-text t =
-    omega (arith, length-blanks (t .before) (putValue (t .value) (putBlanks (t .after) [])), length-value (t .value) (putBlanks (t .after) []), length-blanks (t .after) [])
+    omega (
+      arith,
+      length-blanks (t .before) (putValue (t .value) (putBlanks (t .after) [])),
+      length-value (t .value) (putBlanks (t .after) []),
+      length-blanks (t .after) [],
+    )
 
 -- each of these takes at least one byte
 
