@@ -1,3 +1,4 @@
+pub mod Check
 pub mod Complete
 pub mod Grammar
 pub mod Machine
@@ -5,3 +6,4 @@ pub mod Place
 pub mod Room
 pub mod Sound
 pub mod Steps
+pub mod Verdict

@@ -7,7 +7,7 @@ use mathlib.Core.Logic.{_⊎_, inl, inr}
 use Prim.Native.Nat.{ℕ, zero, suc, _≤_, _<_, _+_, _-_}
 use native.Mathlib.Nat.{le-antisymm, le-of-suc-le-suc}
 use native.Mathlib.Omega.{arith, by-contra}
-use lib.ListN.{take, drop, length}
+use lib.ListN.{take, drop, length, take-append-drop}
 use lib.Seq.{take-add}
 use Rattle.encoding.specs.Prefix.{Alive, DeadPlace}
 use Rattle.json.specs.Grammar.{JsonText, Nested}
@@ -28,6 +28,14 @@ alive-take L s m n h (u, t) =
 pub alive-into : (L M : List ℕ → Type 0) → ((s : List ℕ) → L s → M s) → (p : List ℕ) → Alive L p → Alive M p
 unfolding Alive
 alive-into L M f p (u, t) = (u, f (p ++ u) t)
+
+-- a text's own prefixes are alive
+pub alive-text : (L : List ℕ → Type 0) (s : List ℕ) (n : ℕ) → L s → Alive L (take n s)
+unfolding Alive
+alive-text L s n t = (drop n s, rw take-append-drop t)
+
+pub dead-place-at : (L : List ℕ → Type 0) (s : List ℕ) (n : ℕ) → n ≤ length s → Alive L (take n s) → (n < length s → Alive L (take (suc n) s) → ⊥) → DeadPlace L s n
+dead-place-at L s n h a d = record { within = h; before = λ i l. alive-take L s (suc i) n l a; dead = d }
 
 -- a text has one dead place
 pub dead-place-unique : (L : List ℕ → Type 0) (s : List ℕ) (m n : ℕ) → DeadPlace L s m → DeadPlace L s n → m ≡ n
@@ -86,11 +94,8 @@ pub room-dead-place : (ρ : Room) (s : List ℕ) → DeadPlace (Texts ρ) s (pla
 room-dead-place ρ s =
     let r = place-alive valueDue [] ρ s in
     let n = place (start ρ) s in
-    record {
-      within = place-within valueDue [] ρ s;
-      before = λ i h. alive-take (Texts ρ) s (suc i) n h (alive-run ρ (take n s) (r .0) (r .1) (r .2) (r .3));
-      dead = λ h. dead-run-alive ρ (take (suc n) s) (place-dead valueDue [] ρ s h);
-    }
+    dead-place-at (Texts ρ) s n (place-within valueDue [] ρ s) (alive-run ρ (take n s) (r .0) (r .1) (r .2) (r .3))
+    (λ h. dead-run-alive ρ (take (suc n) s) (place-dead valueDue [] ρ s h))
 
 pub dead-place : (s : List ℕ) → DeadPlace JsonText s (place (start endless) s)
 dead-place s = room-dead-place endless s
