@@ -1,5 +1,6 @@
 pub mod Check
 pub mod Complete
+pub mod Examples
 pub mod Grammar
 pub mod Machine
 pub mod Place
