@@ -1,7 +1,7 @@
 -- The check of a record's text in one pass of the machine: grounds 5 and 6 of document 01, and the laws of that pass by places.
 use mathlib.Core.Path.{_≡_, refl, ap, sym, _∙_}
 use mathlib.Core.List.{List, [], _∷_}
-use mathlib.Core.Bool.{Bool, true, false}
+use mathlib.Core.Bool.{Bool, true, false, _&&_}
 use Prim.Native.Nat.{ℕ, zero, suc, _+_, _-_, _≤_, _<_}
 use native.Mathlib.Omega.{arith}
 use native.Mathlib.Numerals.{add-one}
@@ -10,7 +10,7 @@ use lib.Seq.{drop-cons}
 use Rattle.encoding.specs.Verdict.{Verdict, taken, refused}
 use Rattle.json.specs.Grammar.{Kind, array, opening}
 use Rattle.json.specs.Room.{Room, left, endless}
-use Rattle.json.specs.Machine.{Ctl, item, Stack, State, dead, at, entered, step, accept}
+use Rattle.json.specs.Machine.{Ctl, item, Stack, State, dead, at, entered, step, final, isEmpty, accept}
 use Rattle.json.specs.Steps.{Freed, both-dead, alike, no-room, step-freed, item-open}
 
 -- at the end of the bytes
@@ -66,6 +66,10 @@ same-at s i c c′ k ρ h e =
     ∙ ap (λ (x : State). elim x as (λ _. Verdict) [ dead ↦ blame (step (at c k endless) (getD s i 0)) i | at d l σ ↦ checkFrom d l σ (suc i) (drop (suc i) s) ]) (e ρ)
     ∙ ap (λ (y : State). elim (step (at c′ k ρ) (getD s i 0)) as (λ _. Verdict) [ dead ↦ blame y i | at d l σ ↦ checkFrom d l σ (suc i) (drop (suc i) s) ]) (e endless)
     ∙ sym (ap (checkFrom c′ k ρ i) (drop-cons s i 0 h))
+
+-- two control states that end alike, at the end of the bytes
+pub end-same : (s : List ℕ) (i : ℕ) (c c′ : Ctl) (k : Stack) (ρ : Room) → length s ≤ i → final c ≡ final c′ → here s c k ρ i ≡ here s c′ k ρ i
+end-same s i c c′ k ρ h e = end-at s i c k ρ h ∙ ap (λ (x : Bool). ended (x && isEmpty k) i) e ∙ sym (end-at s i c′ k ρ h)
 
 -- brackets
 module _ (s : List ℕ) (i : ℕ) (f : Bool) (k : Stack) (x : Kind) (h : i < length s) (e : getD s i 0 ≡ opening x) where

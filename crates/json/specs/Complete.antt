@@ -1,13 +1,12 @@
 -- The machine accepts the text of every tree that has room, and every control state can be completed to a text.
 -- Stated as transfer: what is accepted from the state after a part is accepted, with the part before it, from the state before.
-use mathlib.Core.Path.{_≡_, refl, sym, subst, _∙_}
+use mathlib.Core.Path.{_≡_, refl, sym, subst}
 use mathlib.Core.List.{List, [], _∷_, _++_}
-use mathlib.Core.Bool.{Bool, true, false, _&&_}
-use mathlib.Core.Option.{Option, some, none}
+use mathlib.Core.Bool.{Bool, true, false}
+use mathlib.Core.Option.{some}
 use Prim.Native.Nat.{ℕ, zero, suc, _≤_}
 use native.Mathlib.Omega.{arith}
 use lib.Dec.{T}
-use Rattle.encoding.specs.Bytes as B
 use Rattle.encoding.specs.Bytes.{In, putIn, Blank, Blanks, blankByte, putBlanks}
 use Rattle.encoding.specs.Utf8 as U
 use Rattle.encoding.specs.Utf8.{Wide, putWide}
@@ -16,7 +15,7 @@ use Rattle.json.specs.Grammar.{Digit, Int, Frac, Exp, ExpSign, E, eByte,
 use Rattle.json.specs.Grammar.{putLiteral, putInt, putFrac, putExp, putExpSign, putMinus, putChar, putChars, putString, putKey, putValue, putItems, putMore, text, nesting, itemsNesting, moreNesting}
 use Rattle.json.specs.Room.{Room, left, endless, Fits, Within, wider, Texts, fits-left, fits-right, fits-less}
 use Rattle.json.specs.Machine.{Second, anyTail, afterE0, afterED, afterF0, afterF4, secondLow, secondHigh, Ctl, item, colon, after, inString, escaping, hexDue, tailDue, wordDue, afterMinus, afterZero, inInt, afterPoint, inFrac, afterE, afterSign, inExp, valueDue}
-use Rattle.json.specs.Machine.{Stack, top, pop, State, dead, at, entered, Rule, one, span, lowest, highest, takes, afterRules, exponentRules, hexRules, closed, rules, pick, step, run, final, accept, start}
+use Rattle.json.specs.Machine.{Stack, top, State, dead, at, entered, Rule, one, span, lowest, highest, takes, afterRules, exponentRules, hexRules, closed, rules, pick, step, run, final, accept, start}
 use Rattle.json.specs.Steps.{pick-later, takes-between, landing, lands, step-in, step-by, inside, item-blank, item-open, item-close, colon-blank, after-blank, after-comma, after-close}
 
 -- s completes a text from the state

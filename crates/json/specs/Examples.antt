@@ -1,7 +1,7 @@
 -- Records beside their verdicts, each rule beside its nearest wrong neighbour, and the trees of some records: all by computing.
 use mathlib.Core.Path.{_≡_, refl}
 use mathlib.Core.List.{List, [], _∷_, _++_, map}
-use Prim.Native.Nat.{ℕ, zero, suc, _≤_}
+use Prim.Native.Nat.{ℕ, zero, suc}
 use Prim.Native.Char.{code}
 use Prim.Native.String.{String, [] as []ₛ, _∷_ as _∷ₛ_}
 use native.Mathlib.Omega.{arith}

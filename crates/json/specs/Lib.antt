@@ -2,6 +2,7 @@ pub mod Check
 pub mod Complete
 pub mod Examples
 pub mod Grammar
+pub mod Led
 pub mod Machine
 pub mod Place
 pub mod Room

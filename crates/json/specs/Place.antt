@@ -1,18 +1,16 @@
 -- The machine's place is the dead byte of the grammar, for every room (document 01, "Grounds for refusing").
 -- It is alive while the machine is, since every state can be completed; the machine is dead only where no text begins so.
-use mathlib.Core.Path.{_≡_, refl, ap, sym, subst, _∙_}
+use mathlib.Core.Path.{_≡_, refl, ap, sym, _∙_}
 use mathlib.Core.List.{List, [], _∷_, _++_, append-assoc}
-use mathlib.Core.Bool.{Bool, true, false}
-use mathlib.Core.Logic.{_⊎_, inl, inr}
-use Prim.Native.Nat.{ℕ, zero, suc, _≤_, _<_, _+_, _-_}
+use Prim.Native.Nat.{ℕ, suc, _≤_, _<_, _+_, _-_}
 use native.Mathlib.Nat.{le-antisymm, le-of-suc-le-suc}
 use native.Mathlib.Omega.{arith, by-contra}
 use lib.ListN.{take, drop, length, take-append-drop}
 use lib.Seq.{take-add}
 use Rattle.encoding.specs.Prefix.{Alive, DeadPlace}
-use Rattle.json.specs.Grammar.{JsonText, Nested}
-use Rattle.json.specs.Room.{Room, left, endless, Texts}
-use Rattle.json.specs.Machine.{Ctl, valueDue, Stack, State, dead, at, step, run, place, accept, start}
+use Rattle.json.specs.Grammar.{JsonText}
+use Rattle.json.specs.Room.{Room, endless, Texts}
+use Rattle.json.specs.Machine.{Ctl, valueDue, Stack, State, dead, at, step, run, place, start}
 use Rattle.json.specs.Sound.{sound}
 use Rattle.json.specs.Complete.{complete, viable, dead-accepts}
 
@@ -24,10 +22,6 @@ alive-take L s m n h (u, t) =
     let e : m + (n - m) ≡ n = omega arith in
     let q : take n s ≡ take m s ++ take (n - m) (drop m s) = ap (λ (x : ℕ). take x s) (sym e) ∙ take-add m (n - m) s in
     (take (n - m) (drop m s) ++ u, rw (q, append-assoc) at t)
-
-pub alive-into : (L M : List ℕ → Type 0) → ((s : List ℕ) → L s → M s) → (p : List ℕ) → Alive L p → Alive M p
-unfolding Alive
-alive-into L M f p (u, t) = (u, f (p ++ u) t)
 
 -- a text's own prefixes are alive
 pub alive-text : (L : List ℕ → Type 0) (s : List ℕ) (n : ℕ) → L s → Alive L (take n s)

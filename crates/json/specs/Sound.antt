@@ -3,19 +3,18 @@
 use mathlib.Core.Path.{_≡_, refl}
 use mathlib.Core.List.{List, [], _∷_, _++_}
 use mathlib.Core.Bool.{Bool, true, false, _&&_, and-eq-true-iff}
-use Prim.Native.Nat.{ℕ, zero, suc, max, _≤_}
+use Prim.Native.Nat.{ℕ, zero, suc, max}
 use native.Mathlib.Omega.{arith}
 use lib.Dec.{T, leb}
 use borrow.Author.Tests.{leb-true}
 use Rattle.encoding.specs.Bytes as B
 use Rattle.encoding.specs.Bytes.{In, putIn, Blank, Blanks, blankByte, putBlanks}
 use Rattle.encoding.specs.Utf8 as U
-use Rattle.encoding.specs.Utf8.{Wide, putWide}
 use Rattle.json.specs.Grammar as G
-use Rattle.json.specs.Grammar.{Digit, Int, Frac, Exp, ExpSign, E, eByte, Escape, escapeByte, Hex, hexByte, Char, Minus, Literal, Kind, array, object, opening, closing, Name, Key, Value, Items, More, Tree}
-use Rattle.json.specs.Grammar.{putInt, putFrac, putExp, putExpSign, putMinus, putChar, putChars, putString, putKey, putValue, putItems, putMore, text, nesting, itemsNesting, moreNesting}
+use Rattle.json.specs.Grammar.{Digit, Int, Frac, Exp, ExpSign, E, eByte, Escape, escapeByte, Hex, hexByte, Char, Kind, array, object, opening, closing, Key, Value, More}
+use Rattle.json.specs.Grammar.{putInt, putFrac, putExp, putExpSign, putChars, putKey, putValue, putMore, text, nesting, moreNesting}
 use Rattle.json.specs.Room.{Room, left, endless, Fits, Within, wider, Texts, fits-nothing, fits-max, fits-more}
-use Rattle.json.specs.Machine.{Second, anyTail, afterE0, afterED, afterF0, afterF4, secondLow, secondHigh, Ctl, item, colon, after, inString, escaping, hexDue, tailDue, wordDue, afterMinus, afterZero, inInt, afterPoint, inFrac, afterE, afterSign, inExp}
+use Rattle.json.specs.Machine.{anyTail, afterE0, afterED, afterF0, afterF4, secondLow, secondHigh, Ctl, item, colon, after, inString, escaping, hexDue, tailDue, wordDue, afterMinus, afterZero, inInt, afterPoint, inFrac, afterE, afterSign, inExp}
 use Rattle.json.specs.Machine.{Stack, top, pop, State, dead, at, entered, Rule, one, span, opens, closes, apply, closeRules, afterRules, hexRules, closed, rules, takes, pick, step, run, final, isEmpty, accept, start}
 
 -- after a value

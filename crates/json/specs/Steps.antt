@@ -3,7 +3,7 @@ use mathlib.Core.Path.{_≡_, refl, _∙_}
 use mathlib.Core.List.{List, [], _∷_, _++_}
 use mathlib.Core.Bool.{Bool, true, false, _&&_, _||_, and-eq-true-iff}
 use mathlib.Core.Option.{Option, some, none}
-use Prim.Native.Nat.{ℕ, zero, suc, _≤_, _<_}
+use Prim.Native.Nat.{ℕ, zero, suc, _≤_}
 use native.Mathlib.Omega.{arith}
 use lib.Dec.{T, leb, ltb, leb→le}
 use borrow.Author.Tests.{le-leb, leb-true, ltb-true}
@@ -11,7 +11,7 @@ use Rattle.encoding.specs.Bytes as B
 use Rattle.encoding.specs.Bytes.{In, Blank, blankByte}
 use Rattle.json.specs.Grammar.{Kind, array, object, opening, closing}
 use Rattle.json.specs.Room.{Room, left, endless, wider}
-use Rattle.json.specs.Machine.{Ctl, item, colon, after, Stack, top, pop, State, dead, at, entered, Rule, one, span, opens, closes, lowest, highest, takes, apply, afterRules, rules, pick, step, run}
+use Rattle.json.specs.Machine.{Ctl, item, colon, after, Stack, top, pop, State, dead, at, entered, Rule, one, span, opens, closes, lowest, highest, takes, apply, afterRules, rules, pick, step}
 
 -- tests
 and-so : (x y : Bool) → T (x && y) → T x × T y

@@ -1,9 +1,9 @@
 -- Grounds 4 to 6 (document 01, "Grounds for refusing"): the executable verdict on a record, and what each ground says of the grammar.
 use mathlib.Core.Path.{_≡_, refl, ap, sym, subst, _∙_}
-use mathlib.Core.List.{List, [], _∷_, _++_}
-use mathlib.Core.Bool.{Bool, true, false, _&&_}
+use mathlib.Core.List.{List, [], _∷_}
+use mathlib.Core.Bool.{Bool, true, false}
 use mathlib.Core.Logic.{_↔_}
-use Prim.Native.Nat.{ℕ, zero, suc, _≤_, _<_, _-_}
+use Prim.Native.Nat.{ℕ, suc, _≤_, _<_, _-_}
 use native.Mathlib.Nat.{le-antisymm}
 use native.Mathlib.Omega.{arith, by-contra, not-le}
 use lib.Dec.{T, leb}
@@ -19,7 +19,7 @@ use Rattle.json.specs.Machine.{Ctl, valueDue, Stack, State, dead, at, st
 use Rattle.json.specs.Steps.{Freed, both-dead, alike, no-room, step-freed}
 use Rattle.json.specs.Sound.{sound}
 use Rattle.json.specs.Complete.{complete}
-use Rattle.json.specs.Place.{alive-take, alive-into, alive-text, dead-place-at, dead-place-unique, run-append, alive-run, dead-run-alive}
+use Rattle.json.specs.Place.{alive-take, alive-text, dead-place-at, dead-place-unique, run-append, alive-run, dead-run-alive}
 use Rattle.json.specs.Check.{ended, blame, checkFrom}
 
 -- the levels that a record may nest, and the bytes that it may have
@@ -59,7 +59,7 @@ pub data RecordSays (s : List ℕ) : Verdict → Type 0 where
   -- 6: a bracket that the grammar allows opens a level too many, and ground 5 has no smaller place
   deep : (p : ℕ) → length s ≤ maxBytes → OpensBeyond maxDepth s p → RecordSays s (refused 6 p)
 
-nested-text : (n : ℕ) (s : List ℕ) → Nested n s → JsonText s
+pub nested-text : (n : ℕ) (s : List ℕ) → Nested n s → JsonText s
 nested-text n s j = record { tree = j .tree; written = j .written }
 
 -- The verdict says what holds: over the bytes before place i the machine in the room and the machine without a limit run side by side.
@@ -186,3 +186,13 @@ record-taken s = (λ e. by verdict.taken (subst (RecordSays s) e (recordSays s))
     by _ (long l) e = absurd (omega arith)
     by _ (wrong p l f d a) e = absurd (omega arith)
     by _ (deep p l o) e = absurd (omega arith)
+
+-- the place of ground 5 is the dead byte of the record
+pub record-wrong : (s : List ℕ) (p : ℕ) → recordVerdict s ≡ refused 5 p → DeadPlace JsonText s p
+record-wrong s p e = by (refused 5 p) (subst (RecordSays s) e (recordSays s)) refl refl
+  where
+    by : (v : Verdict) → RecordSays s v → v .ground ≡ 5 → v .place ≡ p → DeadPlace JsonText s p
+    by _ (taken l j) g q = absurd (omega arith)
+    by _ (long l) g q = absurd (omega arith)
+    by _ (wrong r l f d a) g q = subst (DeadPlace JsonText s) q d
+    by _ (deep r l o) g q = absurd (omega arith)
