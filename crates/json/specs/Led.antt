@@ -1,4 +1,4 @@
--- What a stretch of the text does to the verdict, in every container and every room: the laws that a scanner of strings, numbers or blanks composes.
+-- What a stretch of the text does to the verdict, in every container and every room.
 use mathlib.Core.Path.{_≡_, refl, _∙_}
 use mathlib.Core.List.{List}
 use mathlib.Core.Bool.{Bool, true, false}
@@ -30,7 +30,8 @@ module _ {s : List ℕ} {i : ℕ} {c d : Ctl} {r : ℕ} (p : Led s i c d true r)
   -- one byte more
   pub led-go : (d′ : Ctl) → r < length s → ((k : Stack) (ρ : Room) → step (at d k ρ) (getD s r 0) ≡ at d′ k ρ) → Led s i c d′ true (r + 1)
   unfolding outcome
-  led-go d′ h f = record { from = omega (arith, p .from); within = omega arith; same = λ k ρ. p .same k ρ ∙ go-at s r d k ρ d′ k ρ h (f k ρ) }
+  led-go d′ h f =
+      record { from = omega (arith, p .from); within = omega arith; same = λ k ρ. p .same k ρ ∙ go-at s r d k ρ d′ k ρ h (f k ρ) }
 
   -- a dead byte
   pub led-die : (d′ : Ctl) → r < length s → ((k : Stack) → step (at d k endless) (getD s r 0) ≡ dead) → Led s i c d′ false r
@@ -48,12 +49,14 @@ module _ {s : List ℕ} {i : ℕ} {c d : Ctl} {r : ℕ} (p : Led s i c d true r)
   led-over d′ h f = record { from = p .from; within = p .within; same = λ k ρ. p .same k ρ ∙ end-same s r d d′ k ρ h f }
 
   -- a control state that takes the next byte alike
-  pub led-same : (d′ : Ctl) → r < length s → ((k : Stack) (ρ : Room) → step (at d k ρ) (getD s r 0) ≡ step (at d′ k ρ) (getD s r 0)) → Led s i c d′ true r
+  pub led-same : (d′ : Ctl) → r < length s → ((k : Stack) (ρ : Room) → step (at d k ρ) (getD s r 0) ≡ step (at d′ k ρ) (getD s r 0)) →
+      Led s i c d′ true r
   unfolding outcome
   led-same d′ h f = record { from = p .from; within = p .within; same = λ k ρ. p .same k ρ ∙ same-at s r d d′ k ρ h (f k) }
 
   -- a run of bytes that keep the machine where it is
-  pub led-skip : (q : ℕ) → r ≤ q → q ≤ length s → ((k : Stack) (ρ : Room) (j : ℕ) → r ≤ j → j < q → step (at d k ρ) (getD s j 0) ≡ at d k ρ) → Led s i c d true q
+  pub led-skip : (q : ℕ) → r ≤ q → q ≤ length s →
+      ((k : Stack) (ρ : Room) (j : ℕ) → r ≤ j → j < q → step (at d k ρ) (getD s j 0) ≡ at d k ρ) → Led s i c d true q
   unfolding outcome
   led-skip q h l f = record { from = omega (arith, p .from); within = l; same = λ k ρ. p .same k ρ ∙ skip s d k ρ r q h l (f k ρ) }
 

@@ -28,7 +28,8 @@ pub alive-text : (L : List ℕ → Type 0) (s : List ℕ) (n : ℕ) → L s → 
 unfolding Alive
 alive-text L s n t = (drop n s, rw take-append-drop t)
 
-pub dead-place-at : (L : List ℕ → Type 0) (s : List ℕ) (n : ℕ) → n ≤ length s → Alive L (take n s) → (n < length s → Alive L (take (suc n) s) → ⊥) → DeadPlace L s n
+pub dead-place-at : (L : List ℕ → Type 0) (s : List ℕ) (n : ℕ) → n ≤ length s → Alive L (take n s) →
+    (n < length s → Alive L (take (suc n) s) → ⊥) → DeadPlace L s n
 dead-place-at L s n h a d = record { within = h; before = λ i l. alive-take L s (suc i) n l a; dead = d }
 
 -- a text has one dead place
@@ -53,23 +54,31 @@ pub dead-run-alive : (ρ : Room) (p : List ℕ) → run (start ρ) p ≡ dead �
 unfolding Alive
 dead-run-alive ρ p e (u, t) = dead-accepts u (rw (run-append, e) at (complete ρ (p ++ u) t))
 
-place-alive : (c : Ctl) (k : Stack) (ρ : Room) (s : List ℕ) → (c′ : Ctl) × (k′ : Stack) × (ρ′ : Room) × (run (at c k ρ) (take (place (at c k ρ) s) s) ≡ at c′ k′ ρ′)
+-- the state is not dead
+abbrev Lives : State → Type 0
+Lives st = (c : Ctl) × (k : Stack) × (ρ : Room) × (st ≡ at c k ρ)
+
+place-alive : (c : Ctl) (k : Stack) (ρ : Room) (s : List ℕ) → Lives (run (at c k ρ) (take (place (at c k ρ) s) s))
 unfolding run place
 place-alive c k ρ [] = (c, k, ρ, refl)
 place-alive c k ρ (b ∷ s) = by (step (at c k ρ) b) refl (λ c′ k′ ρ′. place-alive c′ k′ ρ′ s)
   where
-    by : (st : State) → step (at c k ρ) b ≡ st → ((c′ : Ctl) (k′ : Stack) (ρ′ : Room) → (c″ : Ctl) × (k″ : Stack) × (ρ″ : Room) × (run (at c′ k′ ρ′) (take (place (at c′ k′ ρ′) s) s) ≡ at c″ k″ ρ″)) →
-        (c″ : Ctl) × (k″ : Stack) × (ρ″ : Room) × (run (at c k ρ) (take (elim st [ dead ↦ 0 | at c′ k′ ρ′ ↦ suc (place (at c′ k′ ρ′) s) ]) (b ∷ s)) ≡ at c″ k″ ρ″)
+    by : (st : State) → step (at c k ρ) b ≡ st →
+        ((c′ : Ctl) (k′ : Stack) (ρ′ : Room) → Lives (run (at c′ k′ ρ′) (take (place (at c′ k′ ρ′) s) s))) →
+        Lives (run (at c k ρ) (take (elim st [ dead ↦ 0 | at c′ k′ ρ′ ↦ suc (place (at c′ k′ ρ′) s) ]) (b ∷ s)))
     by dead e again = (c, k, ρ, refl)
-    by (at c′ k′ ρ′) e again = let r = again c′ k′ ρ′ in (r .0, r .1, r .2, ap (λ (x : State). run x (take (place (at c′ k′ ρ′) s) s)) e ∙ r .3)
+    by (at c′ k′ ρ′) e again =
+        let r = again c′ k′ ρ′ in (r .0, r .1, r .2, ap (λ (x : State). run x (take (place (at c′ k′ ρ′) s) s)) e ∙ r .3)
 
-place-dead : (c : Ctl) (k : Stack) (ρ : Room) (s : List ℕ) → place (at c k ρ) s < length s → run (at c k ρ) (take (suc (place (at c k ρ) s)) s) ≡ dead
+place-dead : (c : Ctl) (k : Stack) (ρ : Room) (s : List ℕ) → place (at c k ρ) s < length s →
+    run (at c k ρ) (take (suc (place (at c k ρ) s)) s) ≡ dead
 unfolding run place
 place-dead c k ρ [] h = absurd (omega arith)
 place-dead c k ρ (b ∷ s) h = by (step (at c k ρ) b) refl h (λ c′ k′ ρ′ h′. place-dead c′ k′ ρ′ s h′)
   where
     by : (st : State) → step (at c k ρ) b ≡ st → elim st [ dead ↦ 0 | at c′ k′ ρ′ ↦ suc (place (at c′ k′ ρ′) s) ] < suc (length s) →
-        ((c′ : Ctl) (k′ : Stack) (ρ′ : Room) → place (at c′ k′ ρ′) s < length s → run (at c′ k′ ρ′) (take (suc (place (at c′ k′ ρ′) s)) s) ≡ dead) →
+        ((c′ : Ctl) (k′ : Stack) (ρ′ : Room) → place (at c′ k′ ρ′) s < length s →
+        run (at c′ k′ ρ′) (take (suc (place (at c′ k′ ρ′) s)) s) ≡ dead) →
         run (at c k ρ) (take (suc (elim st [ dead ↦ 0 | at c′ k′ ρ′ ↦ suc (place (at c′ k′ ρ′) s) ])) (b ∷ s)) ≡ dead
     by dead e q again = rw e refl
     by (at c′ k′ ρ′) e q again = ap (λ (x : State). run x (take (suc (place (at c′ k′ ρ′) s)) s)) e ∙ again c′ k′ ρ′ (le-of-suc-le-suc q)
@@ -79,7 +88,8 @@ unfolding place
 place-within c k ρ [] = omega arith
 place-within c k ρ (b ∷ s) = by (step (at c k ρ) b) (λ c′ k′ ρ′. place-within c′ k′ ρ′ s)
   where
-    by : (st : State) → ((c′ : Ctl) (k′ : Stack) (ρ′ : Room) → place (at c′ k′ ρ′) s ≤ length s) → elim st [ dead ↦ 0 | at c′ k′ ρ′ ↦ suc (place (at c′ k′ ρ′) s) ] ≤ suc (length s)
+    by : (st : State) → ((c′ : Ctl) (k′ : Stack) (ρ′ : Room) → place (at c′ k′ ρ′) s ≤ length s) →
+        elim st [ dead ↦ 0 | at c′ k′ ρ′ ↦ suc (place (at c′ k′ ρ′) s) ] ≤ suc (length s)
     by dead again = omega arith
     by (at c′ k′ ρ′) again = omega (arith, again c′ k′ ρ′)
 

@@ -55,7 +55,8 @@ pub data RecordSays (s : List ℕ) : Verdict → Type 0 where
   -- 4: the record has too many bytes
   long : maxBytes < length s → RecordSays s (refused 4 maxBytes)
   -- 5: the record is not a JSON text, p is the place of its dead byte, and ground 6 has no smaller one
-  wrong : (p : ℕ) → length s ≤ maxBytes → (JsonText s → ⊥) → DeadPlace JsonText s p → Alive (Nested maxDepth) (take p s) → RecordSays s (refused 5 p)
+  wrong : (p : ℕ) → length s ≤ maxBytes → (JsonText s → ⊥) → DeadPlace JsonText s p → Alive (Nested maxDepth) (take p s) →
+      RecordSays s (refused 5 p)
   -- 6: a bracket that the grammar allows opens a level too many, and ground 5 has no smaller place
   deep : (p : ℕ) → length s ≤ maxBytes → OpensBeyond maxDepth s p → RecordSays s (refused 6 p)
 
@@ -101,10 +102,12 @@ module _ (q : List ℕ) (short : length q ≤ maxBytes) (i : ℕ) (c : Ctl) (k :
 
     one-more : (σ : Room) (st st′ : State) → run (start σ) (take i q) ≡ st → step st b ≡ st′ → run (start σ) (take (suc i) q) ≡ st′
     unfolding run
-    one-more σ st st′ f g = ap (run (start σ)) (take-suc q i 0 there) ∙ run-append (start σ) (take i q) (getD q i 0 ∷ []) ∙ rw (byte, f, g) refl
+    one-more σ st st′ f g =
+        ap (run (start σ)) (take-suc q i 0 there) ∙ run-append (start σ) (take i q) (getD q i 0 ∷ []) ∙ rw (byte, f, g) refl
 
     says-byte : (st st′ : State) → step (at c k ρ) b ≡ st → step (at c k endless) b ≡ st′ → Freed b st st′ →
-        ((c′ : Ctl) (k′ : Stack) (ρ′ : Room) → run (start (left maxDepth)) (take (suc i) q) ≡ at c′ k′ ρ′ → run (start endless) (take (suc i) q) ≡ at c′ k′ endless → RecordSays q (checkFrom c′ k′ ρ′ (suc i) s)) →
+        ((c′ : Ctl) (k′ : Stack) (ρ′ : Room) → run (start (left maxDepth)) (take (suc i) q) ≡ at c′ k′ ρ′ →
+        run (start endless) (take (suc i) q) ≡ at c′ k′ endless → RecordSays q (checkFrom c′ k′ ρ′ (suc i) s)) →
         RecordSays q (elim st as (λ _. Verdict) [ dead ↦ blame st′ i | at c′ k′ ρ′ ↦ checkFrom c′ k′ ρ′ (suc i) s ])
     says-byte _ _ f g both-dead again =
         let d = dead-run-alive endless (take (suc i) q) (one-more endless (at c k endless) dead e′ g) in
@@ -134,7 +137,8 @@ pub recordSays : (s : List ℕ) → RecordSays s (recordVerdict s)
 unfolding recordVerdict textVerdict run
 recordSays s = by (leb (length s) maxBytes) refl
   where
-    by : (x : Bool) → leb (length s) maxBytes ≡ x → RecordSays s (elim x as (λ _. Verdict) [ true ↦ checkFrom valueDue [] (left maxDepth) 0 s | false ↦ refused 4 maxBytes ])
+    by : (x : Bool) → leb (length s) maxBytes ≡ x →
+        RecordSays s (elim x as (λ _. Verdict) [ true ↦ checkFrom valueDue [] (left maxDepth) 0 s | false ↦ refused 4 maxBytes ])
     by true e = says-from s (leb-true (length s) maxBytes e) s 0 valueDue [] (left maxDepth) (omega arith) refl refl refl
     by false e = long (leb-false (length s) maxBytes e)
 
@@ -179,7 +183,8 @@ record-says-only s v h = says-same s v (recordVerdict s) h (recordSays s)
 
 -- a record is taken exactly if it is a JSON text within both limits (demand 2)
 pub record-taken : (s : List ℕ) → (recordVerdict s ≡ verdict.taken) ↔ ((length s ≤ maxBytes) × Nested maxDepth s)
-record-taken s = (λ e. by verdict.taken (subst (RecordSays s) e (recordSays s)) refl, λ t. sym (record-says-only s verdict.taken (taken (t .0) (t .1))))
+record-taken s =
+    (λ e. by verdict.taken (subst (RecordSays s) e (recordSays s)) refl, λ t. sym (record-says-only s verdict.taken (taken (t .0) (t .1))))
   where
     by : (v : Verdict) → RecordSays s v → v .ground ≡ 0 → (length s ≤ maxBytes) × Nested maxDepth s
     by _ (taken l j) e = (l, j)
