@@ -1,13 +1,12 @@
 -- The machine accepts the text of every tree that has room, and every control state can be completed to a text.
 -- Stated as transfer: what is accepted from the state after a part is accepted, with the part before it, from the state before.
-use mathlib.Core.Path.{_≡_, refl, sym, subst, _∙_}
+use mathlib.Core.Path.{_≡_, refl, sym, subst}
 use mathlib.Core.List.{List, [], _∷_, _++_}
-use mathlib.Core.Bool.{Bool, true, false, _&&_}
-use mathlib.Core.Option.{Option, some, none}
+use mathlib.Core.Bool.{Bool, true, false}
+use mathlib.Core.Option.{some}
 use Prim.Native.Nat.{ℕ, zero, suc, _≤_}
 use native.Mathlib.Omega.{arith}
 use lib.Dec.{T}
-use Rattle.encoding.specs.Bytes as B
 use Rattle.encoding.specs.Bytes.{In, putIn, Blank, Blanks, blankByte, putBlanks}
 use Rattle.encoding.specs.Utf8 as U
 use Rattle.encoding.specs.Utf8.{Wide, putWide}
@@ -16,7 +15,7 @@ use Rattle.json.specs.Grammar.{Digit, Int, Frac, Exp, ExpSign, E, eByte,
 use Rattle.json.specs.Grammar.{putLiteral, putInt, putFrac, putExp, putExpSign, putMinus, putChar, putChars, putString, putKey, putValue, putItems, putMore, text, nesting, itemsNesting, moreNesting}
 use Rattle.json.specs.Room.{Room, left, endless, Fits, Within, wider, Texts, fits-left, fits-right, fits-less}
 use Rattle.json.specs.Machine.{Second, anyTail, afterE0, afterED, afterF0, afterF4, secondLow, secondHigh, Ctl, item, colon, after, inString, escaping, hexDue, tailDue, wordDue, afterMinus, afterZero, inInt, afterPoint, inFrac, afterE, afterSign, inExp, valueDue}
-use Rattle.json.specs.Machine.{Stack, top, pop, State, dead, at, entered, Rule, one, span, lowest, highest, takes, afterRules, exponentRules, hexRules, closed, rules, pick, step, run, final, accept, start}
+use Rattle.json.specs.Machine.{Stack, top, State, dead, at, entered, Rule, one, span, lowest, highest, takes, afterRules, exponentRules, hexRules, closed, rules, pick, step, run, final, accept, start}
 use Rattle.json.specs.Steps.{pick-later, takes-between, landing, lands, step-in, step-by, inside, item-blank, item-open, item-close, colon-blank, after-blank, after-comma, after-close}
 
 -- s completes a text from the state
@@ -36,7 +35,8 @@ pub dead-accepts : (s : List ℕ) → Accepts dead s → ⊥
 dead-accepts s h = subst T (sym (rw dead-run at h)) tt
 
 -- blanks and digits that keep the machine where it is
-blanks-on : (st : State) → ((b : Blank) → step st (blankByte b) ≡ st) → (w : Blanks) (u : List ℕ) → Accepts st u → Accepts st (putBlanks w u)
+blanks-on : (st : State) → ((b : Blank) → step st (blankByte b) ≡ st) → (w : Blanks) (u : List ℕ) → Accepts st u →
+    Accepts st (putBlanks w u)
 unfolding putBlanks
 blanks-on st f [] u h = h
 blanks-on st f (b ∷ w) u h = step-on st (blankByte b) (putBlanks w u) st (f b) (blanks-on st f w u h)
@@ -51,17 +51,20 @@ abbrev Parted : List Rule → Stack → Room → Type 0
 Parted [] k ρ = Unit {0}
 Parted (r ∷ rs) k ρ = (landing (lowest r) (highest r) (afterRules (top k)) k ρ ≡ some dead) × Parted rs k ρ
 
-pick-on : (rs : List Rule) (k : Stack) (ρ : Room) (b : ℕ) (u : List ℕ) → Parted rs k ρ → Accepts (pick (afterRules (top k)) b k ρ) u → Accepts (pick (rs ++ afterRules (top k)) b k ρ) u
+pick-on : (rs : List Rule) (k : Stack) (ρ : Room) (b : ℕ) (u : List ℕ) → Parted rs k ρ → Accepts (pick (afterRules (top k)) b k ρ) u →
+    Accepts (pick (rs ++ afterRules (top k)) b k ρ) u
 pick-on [] k ρ b u ps h = h
 pick-on (r ∷ rs) k ρ b u ps h = by (takes r b) refl (pick-on rs k ρ b u (ps .1) h)
   where
-    by : (x : Bool) → takes r b ≡ x → Accepts (pick (rs ++ afterRules (top k)) b k ρ) u → Accepts (pick (r ∷ rs ++ afterRules (top k)) b k ρ) u
+    by : (x : Bool) → takes r b ≡ x → Accepts (pick (rs ++ afterRules (top k)) b k ρ) u →
+        Accepts (pick (r ∷ rs ++ afterRules (top k)) b k ρ) u
     by true e again =
         let q = takes-between r b e in
         absurd (dead-accepts u (rw (lands (lowest r) (highest r) (afterRules (top k)) k ρ dead (ps .0) b (q .0) (q .1)) at h))
     by false e again = rw (pick-later r (rs ++ afterRules (top k)) b k ρ e) again
 
-end-on : (c : Ctl) (k : Stack) (ρ : Room) (rs : List Rule) → rules c (top k) ≡ rs ++ afterRules (top k) → final c ≡ true → Parted rs k ρ → (u : List ℕ) → Accepts (at after k ρ) u → Accepts (at c k ρ) u
+end-on : (c : Ctl) (k : Stack) (ρ : Room) (rs : List Rule) → rules c (top k) ≡ rs ++ afterRules (top k) → final c ≡ true → Parted rs k ρ →
+    (u : List ℕ) → Accepts (at after k ρ) u → Accepts (at c k ρ) u
 unfolding run
 end-on c k ρ rs p f ps [] h = rw f h
 end-on c k ρ rs p f ps (b ∷ u) h = rw p (pick-on rs k ρ b u ps h)
@@ -101,7 +104,8 @@ module _ (k : Stack) (ρ : Room) (u : List ℕ) (h : Accepts (at after k ρ) u) 
   zero-over : Accepts (at afterZero k ρ) u
   zero-over = end-on afterZero k ρ (one 0x2E afterPoint ∷ exponentRules []) refl refl ((parted-int k ρ) .1) u h
 
-range-on : (c c′ : Ctl) (k : Stack) (ρ : Room) {lo hi : ℕ} (b : In lo hi) (u : List ℕ) → landing lo hi (rules c (top k)) k ρ ≡ some (at c′ k ρ) → Accepts (at c′ k ρ) u → Accepts (at c k ρ) (b .byte ∷ u)
+range-on : (c c′ : Ctl) (k : Stack) (ρ : Room) {lo hi : ℕ} (b : In lo hi) (u : List ℕ) →
+    landing lo hi (rules c (top k)) k ρ ≡ some (at c′ k ρ) → Accepts (at c′ k ρ) u → Accepts (at c k ρ) (b .byte ∷ u)
 range-on c c′ k ρ b u p h = step-on (at c k ρ) (b .byte) u (at c′ k ρ) (step-in c k ρ b (at c′ k ρ) p) h
 
 exp-digit : (k : Stack) (ρ : Room) (b : Digit) → step (at inExp k ρ) (b .byte) ≡ at inExp k ρ
@@ -123,11 +127,16 @@ module _ (k : Stack) (ρ : Room) (u : List ℕ) (h : Accepts (at after k ρ) u) 
   e-on : (g : ExpSign) (d : Digit) (ds : List Digit) → Accepts (at afterE k ρ) (putExpSign g (d .byte ∷ putIn ds u))
   unfolding putExpSign step landing
   e-on G.bare d ds = range-on afterE inExp k ρ d (putIn ds u) refl (exp-digits ds)
-  e-on G.positive d ds = step-on (at afterE k ρ) 0x2B (d .byte ∷ putIn ds u) (at afterSign k ρ) refl (range-on afterSign inExp k ρ d (putIn ds u) refl (exp-digits ds))
-  e-on G.negative d ds = step-on (at afterE k ρ) 0x2D (d .byte ∷ putIn ds u) (at afterSign k ρ) refl (range-on afterSign inExp k ρ d (putIn ds u) refl (exp-digits ds))
+  e-on G.positive d ds =
+      step-on (at afterE k ρ) 0x2B (d .byte ∷ putIn ds u) (at afterSign k ρ) refl
+      (range-on afterSign inExp k ρ d (putIn ds u) refl (exp-digits ds))
+  e-on G.negative d ds =
+      step-on (at afterE k ρ) 0x2D (d .byte ∷ putIn ds u) (at afterSign k ρ) refl
+      (range-on afterSign inExp k ρ d (putIn ds u) refl (exp-digits ds))
 
   -- from a control state that may end the number and takes an exponent
-  exp-on : (c : Ctl) → Accepts (at c k ρ) u → ((y : E) → step (at c k ρ) (eByte y) ≡ at afterE k ρ) → (x : Exp) → Accepts (at c k ρ) (putExp x u)
+  exp-on : (c : Ctl) → Accepts (at c k ρ) u → ((y : E) → step (at c k ρ) (eByte y) ≡ at afterE k ρ) → (x : Exp) →
+      Accepts (at c k ρ) (putExp x u)
   unfolding putExp
   exp-on c o f G.noexp = o
   exp-on c o f (G.exp y g d ds) = step-on (at c k ρ) (eByte y) (putExpSign g (d .byte ∷ putIn ds u)) (at afterE k ρ) (f y) (e-on g d ds)
@@ -161,14 +170,16 @@ module _ (k : Stack) (ρ : Room) (u : List ℕ) (h : Accepts (at after k ρ) u) 
   zero-on (G.frac d ds) x = point-on d ds x
 
   -- from a control state that takes an int
-  whole-on : (c : Ctl) → step (at c k ρ) 0x30 ≡ at afterZero k ρ → ((d : In 0x31 0x39) → step (at c k ρ) (d .byte) ≡ at inInt k ρ) → (n : Int) (y : Frac) (x : Exp) → Accepts (at c k ρ) (putInt n (putFrac y (putExp x u)))
+  whole-on : (c : Ctl) → step (at c k ρ) 0x30 ≡ at afterZero k ρ → ((d : In 0x31 0x39) → step (at c k ρ) (d .byte) ≡ at inInt k ρ) →
+      (n : Int) (y : Frac) (x : Exp) → Accepts (at c k ρ) (putInt n (putFrac y (putExp x u)))
   unfolding putInt
   whole-on c z d G.nought y x = step-on (at c k ρ) 0x30 (putFrac y (putExp x u)) (at afterZero k ρ) z (zero-on y x)
   whole-on c z d (G.whole b ds) y x =
       step-on (at c k ρ) (b .byte) (putIn ds (putFrac y (putExp x u))) (at inInt k ρ) (d b)
       (digits-on (at inInt k ρ) (int-digit k ρ) ds (putFrac y (putExp x u)) (int-on y x))
 
-  number-on : (f : Bool) (g : Minus) (n : Int) (y : Frac) (x : Exp) → Accepts (at (item array f) k ρ) (putMinus g (putInt n (putFrac y (putExp x u))))
+  number-on : (f : Bool) (g : Minus) (n : Int) (y : Frac) (x : Exp) →
+      Accepts (at (item array f) k ρ) (putMinus g (putInt n (putFrac y (putExp x u))))
   unfolding putMinus step landing
   number-on f G.unsigned n y x = whole-on (item array f) refl (λ d. step-in (item array f) k ρ d (at inInt k ρ) refl) n y x
   number-on f G.minus n y x =
@@ -176,7 +187,8 @@ module _ (k : Stack) (ρ : Room) (u : List ℕ) (h : Accepts (at after k ρ) u) 
       (whole-on afterMinus refl (λ d. step-in afterMinus k ρ d (at inInt k ρ) refl) n y x)
 
 -- strings
-hex-on : (c c′ : Ctl) (k : Stack) (ρ : Room) (x : Hex) (u : List ℕ) → rules c (top k) ≡ hexRules c′ → Accepts (at c′ k ρ) u → Accepts (at c k ρ) (hexByte x ∷ u)
+hex-on : (c c′ : Ctl) (k : Stack) (ρ : Room) (x : Hex) (u : List ℕ) → rules c (top k) ≡ hexRules c′ → Accepts (at c′ k ρ) u →
+    Accepts (at c k ρ) (hexByte x ∷ u)
 unfolding landing
 hex-on c c′ k ρ (G.digit b) u p h = range-on c c′ k ρ b u (rw p refl) h
 hex-on c c′ k ρ (G.upper b) u p h = range-on c c′ k ρ b u (rw p refl) h
@@ -206,13 +218,23 @@ module _ (f : Bool) (k : Stack) (ρ : Room) (u : List ℕ) (h : Accepts (at (inS
   wide-on : (p : Wide) → Accepts (at (inString f) k ρ) (putWide p u)
   unfolding putWide landing
   wide-on (U.c2-df x y) = range-on (inString f) (tailDue anyTail 0 f) k ρ x _ refl (tail-on y)
-  wide-on (U.e0 x y z) = range-on (inString f) (tailDue afterE0 1 f) k ρ x _ refl (range-on (tailDue afterE0 1 f) (tailDue anyTail 0 f) k ρ y _ refl (tail-on z))
+  wide-on (U.e0 x y z) =
+      range-on (inString f) (tailDue afterE0 1 f) k ρ x _ refl
+      (range-on (tailDue afterE0 1 f) (tailDue anyTail 0 f) k ρ y _ refl (tail-on z))
   wide-on (U.e1-ec x y z) = range-on (inString f) (tailDue anyTail 1 f) k ρ x _ refl (tails-on y z)
-  wide-on (U.ed x y z) = range-on (inString f) (tailDue afterED 1 f) k ρ x _ refl (range-on (tailDue afterED 1 f) (tailDue anyTail 0 f) k ρ y _ refl (tail-on z))
+  wide-on (U.ed x y z) =
+      range-on (inString f) (tailDue afterED 1 f) k ρ x _ refl
+      (range-on (tailDue afterED 1 f) (tailDue anyTail 0 f) k ρ y _ refl (tail-on z))
   wide-on (U.ee-ef x y z) = range-on (inString f) (tailDue anyTail 1 f) k ρ x _ refl (tails-on y z)
-  wide-on (U.f0 x y z w) = range-on (inString f) (tailDue afterF0 2 f) k ρ x _ refl (range-on (tailDue afterF0 2 f) (tailDue anyTail 1 f) k ρ y _ refl (tails-on z w))
-  wide-on (U.f1-f3 x y z w) = range-on (inString f) (tailDue anyTail 2 f) k ρ x _ refl (range-on (tailDue anyTail 2 f) (tailDue anyTail 1 f) k ρ y _ refl (tails-on z w))
-  wide-on (U.f4 x y z w) = range-on (inString f) (tailDue afterF4 2 f) k ρ x _ refl (range-on (tailDue afterF4 2 f) (tailDue anyTail 1 f) k ρ y _ refl (tails-on z w))
+  wide-on (U.f0 x y z w) =
+      range-on (inString f) (tailDue afterF0 2 f) k ρ x _ refl
+      (range-on (tailDue afterF0 2 f) (tailDue anyTail 1 f) k ρ y _ refl (tails-on z w))
+  wide-on (U.f1-f3 x y z w) =
+      range-on (inString f) (tailDue anyTail 2 f) k ρ x _ refl
+      (range-on (tailDue anyTail 2 f) (tailDue anyTail 1 f) k ρ y _ refl (tails-on z w))
+  wide-on (U.f4 x y z w) =
+      range-on (inString f) (tailDue afterF4 2 f) k ρ x _ refl
+      (range-on (tailDue afterF4 2 f) (tailDue anyTail 1 f) k ρ y _ refl (tails-on z w))
 
   char-on : (c : Char) → Accepts (at (inString f) k ρ) (putChar c u)
   unfolding putChar step landing
@@ -229,61 +251,75 @@ module _ (f : Bool) (k : Stack) (ρ : Room) (u : List ℕ) (h : Accepts (at (inS
       (hex-on (hexDue 1 f) (hexDue 0 f) k ρ z _ refl
       (hex-on (hexDue 0 f) (inString f) k ρ w u refl h)))))
 
-chars-on : (f : Bool) (k : Stack) (ρ : Room) (u : List ℕ) → Accepts (at (closed f) k ρ) u → (cs : List Char) → Accepts (at (inString f) k ρ) (putChars cs (0x22 ∷ u))
+chars-on : (f : Bool) (k : Stack) (ρ : Room) (u : List ℕ) → Accepts (at (closed f) k ρ) u → (cs : List Char) →
+    Accepts (at (inString f) k ρ) (putChars cs (0x22 ∷ u))
 unfolding putChars run
 chars-on f k ρ u h [] = h
 chars-on f k ρ u h (c ∷ cs) = char-on f k ρ (putChars cs (0x22 ∷ u)) (chars-on f k ρ u h cs) c
 
 -- a literal name and a member's name
-literal-on : (l : Literal) (f : Bool) (k : Stack) (ρ : Room) (u : List ℕ) → Accepts (at after k ρ) u → Accepts (at (item array f) k ρ) (putLiteral l u)
+literal-on : (l : Literal) (f : Bool) (k : Stack) (ρ : Room) (u : List ℕ) → Accepts (at after k ρ) u →
+    Accepts (at (item array f) k ρ) (putLiteral l u)
 unfolding putLiteral run
 literal-on G.falseName f k ρ u h = h
 literal-on G.nullName f k ρ u h = h
 literal-on G.trueName f k ρ u h = h
 
 -- an item, given that its value is accepted where a value is due
-key-on : (x : Kind) (key : Key x) (f : Bool) (k : Stack) (ρ : Room) (u : List ℕ) → ((f′ : Bool) → Accepts (at (item array f′) k ρ) u) → Accepts (at (item x f) k ρ) (putKey x key u)
+key-on : (x : Kind) (key : Key x) (f : Bool) (k : Stack) (ρ : Room) (u : List ℕ) → ((f′ : Bool) → Accepts (at (item array f′) k ρ) u) →
+    Accepts (at (item x f) k ρ) (putKey x key u)
 unfolding putKey putString run
 key-on array key f k ρ u h = h f
 key-on object key f k ρ u h =
     chars-on true k ρ _
-    (blanks-on (at colon k ρ) (colon-blank k ρ) (key .before) _ (blanks-on (at valueDue k ρ) (item-blank array false k ρ) (key .after) u (h false))) (key .chars)
+    (blanks-on (at colon k ρ) (colon-blank k ρ) (key .before) _
+    (blanks-on (at valueDue k ρ) (item-blank array false k ρ) (key .after) u (h false)))
+    (key .chars)
 
 -- an opening bracket, where there is room for one container more
-open-on : (x : Kind) (f : Bool) (k : Stack) (ρ : Room) (u : List ℕ) → Accepts (at (item x true) (x ∷ k) ρ) u → Accepts (at (item array f) k (wider ρ)) (opening x ∷ u)
-open-on x f k (left n) u h = step-on (at (item array f) k (left (suc n))) (opening x) u (entered x k (left (suc n))) (item-open x f k (left (suc n))) h
+open-on : (x : Kind) (f : Bool) (k : Stack) (ρ : Room) (u : List ℕ) → Accepts (at (item x true) (x ∷ k) ρ) u →
+    Accepts (at (item array f) k (wider ρ)) (opening x ∷ u)
+open-on x f k (left n) u h =
+    step-on (at (item array f) k (left (suc n))) (opening x) u (entered x k (left (suc n))) (item-open x f k (left (suc n))) h
 open-on x f k endless u h = step-on (at (item array f) k endless) (opening x) u (entered x k endless) (item-open x f k endless) h
 
 mutual
   unfolding putValue putItems putMore nesting run
 
-  value-on : (v : Value) (f : Bool) (k : Stack) (ρ : Room) (u : List ℕ) → Within ρ v → Accepts (at after k ρ) u → Accepts (at (item array f) k ρ) (putValue v u)
+  value-on : (v : Value) (f : Bool) (k : Stack) (ρ : Room) (u : List ℕ) → Within ρ v → Accepts (at after k ρ) u →
+      Accepts (at (item array f) k ρ) (putValue v u)
   value-on (G.literal l) f k ρ u q h = literal-on l f k ρ u h
   value-on (G.number g n y x) f k ρ u q h = number-on k ρ u h f g n y x
   value-on (G.string cs) f k ρ u q h = chars-on false k ρ u h cs
   value-on (G.container x is) f k (left zero) u q h = absurd (omega arith)
-  value-on (G.container x is) f k (left (suc n)) u q h = open-on x f k (left n) (putItems is u) (items-on is k (left n) u (fits-less (left n) (itemsNesting is) q) h)
+  value-on (G.container x is) f k (left (suc n)) u q h =
+      open-on x f k (left n) (putItems is u) (items-on is k (left n) u (fits-less (left n) (itemsNesting is) q) h)
   value-on (G.container x is) f k endless u q h = open-on x f k endless (putItems is u) (items-on is k endless u tt h)
 
-  items-on : {x : Kind} (is : Items x) (k : Stack) (ρ : Room) (u : List ℕ) → Fits ρ (itemsNesting is) → Accepts (at after k (wider ρ)) u → Accepts (at (item x true) (x ∷ k) ρ) (putItems is u)
+  items-on : {x : Kind} (is : Items x) (k : Stack) (ρ : Room) (u : List ℕ) → Fits ρ (itemsNesting is) → Accepts (at after k (wider ρ)) u →
+      Accepts (at (item x true) (x ∷ k) ρ) (putItems is u)
   items-on {x} (G.empty w) k ρ u q h =
       blanks-on (at (item x true) (x ∷ k) ρ) (item-blank x true (x ∷ k) ρ) w (closing x ∷ u)
       (step-on (at (item x true) (x ∷ k) ρ) (closing x) u (at after k (wider ρ)) (item-close x (x ∷ k) ρ) h)
   items-on {x} (G.items w key v m) k ρ u q h =
       blanks-on (at (item x true) (x ∷ k) ρ) (item-blank x true (x ∷ k) ρ) w (putKey x key (putValue v (putMore m u)))
       (key-on x key true (x ∷ k) ρ (putValue v (putMore m u))
-      (λ f. value-on v f (x ∷ k) ρ (putMore m u) (fits-left ρ (nesting v) (moreNesting m) q) (more-on m k ρ u (fits-right ρ (nesting v) (moreNesting m) q) h)))
+      (λ f. value-on v f (x ∷ k) ρ (putMore m u) (fits-left ρ (nesting v) (moreNesting m) q)
+      (more-on m k ρ u (fits-right ρ (nesting v) (moreNesting m) q) h)))
 
-  more-on : {x : Kind} (m : More x) (k : Stack) (ρ : Room) (u : List ℕ) → Fits ρ (moreNesting m) → Accepts (at after k (wider ρ)) u → Accepts (at after (x ∷ k) ρ) (putMore m u)
+  more-on : {x : Kind} (m : More x) (k : Stack) (ρ : Room) (u : List ℕ) → Fits ρ (moreNesting m) → Accepts (at after k (wider ρ)) u →
+      Accepts (at after (x ∷ k) ρ) (putMore m u)
   more-on {x} (G.end w) k ρ u q h =
       blanks-on (at after (x ∷ k) ρ) (after-blank (x ∷ k) ρ) w (closing x ∷ u)
       (step-on (at after (x ∷ k) ρ) (closing x) u (at after k (wider ρ)) (after-close x k ρ) h)
   more-on {x} (G.more w w′ key v m) k ρ u q h =
       blanks-on (at after (x ∷ k) ρ) (after-blank (x ∷ k) ρ) w (0x2C ∷ putBlanks w′ (putKey x key (putValue v (putMore m u))))
-      (step-on (at after (x ∷ k) ρ) 0x2C (putBlanks w′ (putKey x key (putValue v (putMore m u)))) (at (item x false) (x ∷ k) ρ) (after-comma x k ρ)
+      (step-on (at after (x ∷ k) ρ) 0x2C (putBlanks w′ (putKey x key (putValue v (putMore m u))))
+      (at (item x false) (x ∷ k) ρ) (after-comma x k ρ)
       (blanks-on (at (item x false) (x ∷ k) ρ) (item-blank x false (x ∷ k) ρ) w′ (putKey x key (putValue v (putMore m u)))
       (key-on x key false (x ∷ k) ρ (putValue v (putMore m u))
-      (λ f. value-on v f (x ∷ k) ρ (putMore m u) (fits-left ρ (nesting v) (moreNesting m) q) (more-on m k ρ u (fits-right ρ (nesting v) (moreNesting m) q) h)))))
+      (λ f. value-on v f (x ∷ k) ρ (putMore m u) (fits-left ρ (nesting v) (moreNesting m) q)
+      (more-on m k ρ u (fits-right ρ (nesting v) (moreNesting m) q) h)))))
 
 tree-on : (ρ : Room) (t : Tree) → Within ρ (t .value) → accept (run (start ρ) (text t)) ≡ true
 unfolding text run putBlanks
@@ -300,7 +336,9 @@ complete endless s j = rw (j .written) at (tree-on endless (j .tree) tt)
 closers : (k : Stack) (ρ : Room) → (u : List ℕ) × Accepts (at after k ρ) u
 unfolding run
 closers [] ρ = ([], refl)
-closers (x ∷ k) ρ = let r = closers k (wider ρ) in (closing x ∷ r .0, step-on (at after (x ∷ k) ρ) (closing x) (r .0) (at after k (wider ρ)) (after-close x k ρ) (r .1))
+closers (x ∷ k) ρ =
+    let r = closers k (wider ρ) in
+    (closing x ∷ r .0, step-on (at after (x ∷ k) ρ) (closing x) (r .0) (at after k (wider ρ)) (after-close x k ρ) (r .1))
 
 -- bytes that complete what is due, given bytes that complete what comes after
 abbrev Finish : Ctl → Stack → Room → Type 0
@@ -325,6 +363,9 @@ unfolding run
 finish-hex zero f k ρ (u, h) = (0x30 ∷ u, h)
 finish-hex (suc n) f k ρ r = let q = finish-hex n f k ρ r in (0x30 ∷ q .0, q .1)
 
+finish-byte : (c c′ : Ctl) (k : Stack) (ρ : Room) (b : ℕ) → step (at c k ρ) b ≡ at c′ k ρ → Finish c′ k ρ → Finish c k ρ
+finish-byte c c′ k ρ b e (w, h) = (b ∷ w, step-on (at c k ρ) b w (at c′ k ρ) e h)
+
 second-some : (p : Second) → secondLow p ≤ secondHigh p
 second-some anyTail = omega arith
 second-some afterE0 = omega arith
@@ -333,17 +374,18 @@ second-some afterF0 = omega arith
 second-some afterF4 = omega arith
 
 finish-tail : (n : ℕ) (p : Second) (f : Bool) (k : Stack) (ρ : Room) → Finish (inString f) k ρ → Finish (tailDue p n f) k ρ
-finish-tail zero p f k ρ (u, h) =
-    (secondLow p ∷ u, step-on (at (tailDue p 0 f) k ρ) (secondLow p) u (at (inString f) k ρ) (step-by (tailDue p 0 f) k ρ (inside (omega arith) (second-some p))) h)
+finish-tail zero p f k ρ r =
+    finish-byte (tailDue p 0 f) (inString f) k ρ (secondLow p) (step-by (tailDue p 0 f) k ρ (inside (omega arith) (second-some p))) r
 finish-tail (suc n) p f k ρ r =
-    let q = finish-tail n anyTail f k ρ r in
-    (secondLow p ∷ q .0, step-on (at (tailDue p (suc n) f) k ρ) (secondLow p) (q .0) (at (tailDue anyTail n f) k ρ) (step-by (tailDue p (suc n) f) k ρ (inside (omega arith) (second-some p))) (q .1))
+    finish-byte (tailDue p (suc n) f) (tailDue anyTail n f) k ρ (secondLow p)
+    (step-by (tailDue p (suc n) f) k ρ (inside (omega arith) (second-some p))) (finish-tail n anyTail f k ρ r)
 
 finish-word : (bs : List ℕ) (b : ℕ) (k : Stack) (ρ : Room) (u : List ℕ) → Accepts (at after k ρ) u → Finish (wordDue b bs) k ρ
-finish-word [] b k ρ u h = (b ∷ u, step-on (at (wordDue b []) k ρ) b u (at after k ρ) (step-by (wordDue b []) k ρ (inside (omega arith) (omega arith))) h)
+finish-word [] b k ρ u h =
+    finish-byte (wordDue b []) after k ρ b (step-by (wordDue b []) k ρ (inside (omega arith) (omega arith))) (u, h)
 finish-word (b′ ∷ bs) b k ρ u h =
-    let q = finish-word bs b′ k ρ u h in
-    (b ∷ q .0, step-on (at (wordDue b (b′ ∷ bs)) k ρ) b (q .0) (at (wordDue b′ bs) k ρ) (step-by (wordDue b (b′ ∷ bs)) k ρ (inside (omega arith) (omega arith))) (q .1))
+    finish-byte (wordDue b (b′ ∷ bs)) (wordDue b′ bs) k ρ b
+    (step-by (wordDue b (b′ ∷ bs)) k ρ (inside (omega arith) (omega arith))) (finish-word bs b′ k ρ u h)
 
 finish : (c : Ctl) (k : Stack) (ρ : Room) (u : List ℕ) → Accepts (at after k ρ) u → Finish c k ρ
 unfolding run

@@ -1,6 +1,9 @@
 pub mod Append
+pub mod Check
 pub mod Complete
+pub mod Examples
 pub mod Grammar
+pub mod Led
 pub mod Machine
 pub mod Place
 pub mod Read
@@ -9,3 +12,4 @@ pub mod Sound
 pub mod Steps
 pub mod TreeExamples
 pub mod TreeOf
+pub mod Verdict

@@ -3,33 +3,35 @@
 use mathlib.Core.Path.{_≡_, refl}
 use mathlib.Core.List.{List, [], _∷_, _++_}
 use mathlib.Core.Bool.{Bool, true, false, _&&_, and-eq-true-iff}
-use Prim.Native.Nat.{ℕ, zero, suc, max, _≤_}
+use Prim.Native.Nat.{ℕ, zero, suc, max}
 use native.Mathlib.Omega.{arith}
 use lib.Dec.{T, leb}
 use borrow.Author.Tests.{leb-true}
 use Rattle.encoding.specs.Bytes as B
 use Rattle.encoding.specs.Bytes.{In, putIn, Blank, Blanks, blankByte, putBlanks}
 use Rattle.encoding.specs.Utf8 as U
-use Rattle.encoding.specs.Utf8.{Wide, putWide}
 use Rattle.json.specs.Grammar as G
-use Rattle.json.specs.Grammar.{Digit, Int, Frac, Exp, ExpSign, E, eByte, Escape, escapeByte, Hex, hexByte, Char, Minus, Literal, Kind, array, object, opening, closing, Name, Key, Value, Items, More, Tree}
-use Rattle.json.specs.Grammar.{putInt, putFrac, putExp, putExpSign, putMinus, putChar, putChars, putString, putKey, putValue, putItems, putMore, text, nesting, itemsNesting, moreNesting}
+use Rattle.json.specs.Grammar.{Digit, Int, Frac, Exp, ExpSign, E, eByte, Escape, escapeByte, Hex, hexByte, Char, Kind, array, object, opening, closing, Key, Value, More}
+use Rattle.json.specs.Grammar.{putInt, putFrac, putExp, putExpSign, putChars, putKey, putValue, putMore, text, nesting, moreNesting}
 use Rattle.json.specs.Room.{Room, left, endless, Fits, Within, wider, Texts, fits-nothing, fits-max, fits-more}
-use Rattle.json.specs.Machine.{Second, anyTail, afterE0, afterED, afterF0, afterF4, secondLow, secondHigh, Ctl, item, colon, after, inString, escaping, hexDue, tailDue, wordDue, afterMinus, afterZero, inInt, afterPoint, inFrac, afterE, afterSign, inExp}
+use Rattle.json.specs.Machine.{anyTail, afterE0, afterED, afterF0, afterF4, secondLow, secondHigh, Ctl, item, colon, after, inString, escaping, hexDue, tailDue, wordDue, afterMinus, afterZero, inInt, afterPoint, inFrac, afterE, afterSign, inExp}
 use Rattle.json.specs.Machine.{Stack, top, pop, State, dead, at, entered, Rule, one, span, opens, closes, apply, closeRules, afterRules, hexRules, closed, rules, takes, pick, step, run, final, isEmpty, accept, start}
 
 -- after a value
 data After : Stack → Room → List ℕ → Type 0 where
   over : {ρ : Room} (w : Blanks) → After [] ρ (putBlanks w [])
-  inside : {x : Kind} {k : Stack} {ρ : Room} {u : List ℕ} (m : More x) → Fits ρ (moreNesting m) → After k (wider ρ) u → After (x ∷ k) ρ (putMore m u)
+  inside : {x : Kind} {k : Stack} {ρ : Room} {u : List ℕ} (m : More x) → Fits ρ (moreNesting m) → After k (wider ρ) u →
+      After (x ∷ k) ρ (putMore m u)
 
 -- an item is due; true: or the closing bracket
 data ItemRest (k : Stack) (ρ : Room) : Kind → Bool → List ℕ → Type 0 where
-  next : {x : Kind} {f : Bool} {u : List ℕ} (w : Blanks) (key : Key x) (v : Value) → Within ρ v → After k ρ u → ItemRest k ρ x f (putBlanks w (putKey x key (putValue v u)))
+  next : {x : Kind} {f : Bool} {u : List ℕ} (w : Blanks) (key : Key x) (v : Value) → Within ρ v → After k ρ u →
+      ItemRest k ρ x f (putBlanks w (putKey x key (putValue v u)))
   shut : {x : Kind} {u : List ℕ} (w : Blanks) → After (pop k) (wider ρ) u → ItemRest k ρ x true (putBlanks w (closing x ∷ u))
 
 data ColonRest (k : Stack) (ρ : Room) : List ℕ → Type 0 where
-  colons : {u : List ℕ} (w w′ : Blanks) (v : Value) → Within ρ v → After k ρ u → ColonRest k ρ (putBlanks w (0x3A ∷ putBlanks w′ (putValue v u)))
+  colons : {u : List ℕ} (w w′ : Blanks) (v : Value) → Within ρ v → After k ρ u →
+      ColonRest k ρ (putBlanks w (0x3A ∷ putBlanks w′ (putValue v u)))
 
 abbrev ClosedRest : Stack → Room → Bool → List ℕ → Type 0
 ClosedRest k ρ true s = ColonRest k ρ s
@@ -122,18 +124,21 @@ the-byte n b e =
     let q = and-eq-true-iff (leb n b) (leb b n) .0 e in
     omega (arith, leb-true n b (q .0), leb-true b n (q .1))
 
-back-rule : (L : List ℕ → Type 0) (k : Stack) (ρ : Room) (r : Rule) (b : ℕ) (s : List ℕ) → Back L k ρ r → takes r b ≡ true → RestOf (apply r k ρ) s → L (b ∷ s)
+back-rule : (L : List ℕ → Type 0) (k : Stack) (ρ : Room) (r : Rule) (b : ℕ) (s : List ℕ) → Back L k ρ r → takes r b ≡ true →
+    RestOf (apply r k ρ) s → L (b ∷ s)
 back-rule L k ρ (one n c) b s h e r = rw (the-byte n b e) at (h s r)
 back-rule L k ρ (span lo hi c) b s h e r = h (record { byte = b; ok = so e }) s r
 back-rule L k ρ (opens x) b s h e r = rw (the-byte (opening x) b e) at (h s r)
 back-rule L k ρ (closes x) b s h e r = rw (the-byte (closing x) b e) at (h s r)
 
-back-pick : (L : List ℕ → Type 0) (k : Stack) (ρ : Room) (rs : List Rule) (b : ℕ) (s : List ℕ) → Backs L k ρ rs → RestOf (pick rs b k ρ) s → L (b ∷ s)
+back-pick : (L : List ℕ → Type 0) (k : Stack) (ρ : Room) (rs : List Rule) (b : ℕ) (s : List ℕ) → Backs L k ρ rs → RestOf (pick rs b k ρ) s →
+    L (b ∷ s)
 unfolding pick
 back-pick L k ρ [] b s h r = absurd r
 back-pick L k ρ (x ∷ rs) b s h r = by (takes x b) refl r (λ q. back-pick L k ρ rs b s (h .1) q)
   where
-    by : (t : Bool) → takes x b ≡ t → RestOf (elim t [ true ↦ apply x k ρ | false ↦ pick rs b k ρ ]) s → (RestOf (pick rs b k ρ) s → L (b ∷ s)) → L (b ∷ s)
+    by : (t : Bool) → takes x b ≡ t → RestOf (elim t [ true ↦ apply x k ρ | false ↦ pick rs b k ρ ]) s →
+        (RestOf (pick rs b k ρ) s → L (b ∷ s)) → L (b ∷ s)
     by true e q again = back-rule L k ρ x b s (h .0) e q
     by false e q again = again q
 
@@ -162,7 +167,8 @@ after-close {x} {k} {ρ} s a = inside (G.end []) (fits-nothing ρ) a
 
 back-after : (k : Stack) (ρ : Room) → Backs (After k ρ) k ρ (afterRules (top k))
 back-after [] ρ = (after-blank B.space, (after-blank B.feed, (after-blank B.return, (after-blank B.tab, tt))))
-back-after (x ∷ k) ρ = (after-blank B.space, (after-blank B.feed, (after-blank B.return, (after-blank B.tab, (after-comma, (after-close, tt))))))
+back-after (x ∷ k) ρ =
+    (after-blank B.space, (after-blank B.feed, (after-blank B.return, (after-blank B.tab, (after-comma, (after-close, tt))))))
 
 -- an item is due
 item-blank : {k : Stack} {ρ : Room} {x : Kind} {f : Bool} (b : Blank) (s : List ℕ) → ItemRest k ρ x f s → ItemRest k ρ x f (blankByte b ∷ s)
@@ -221,9 +227,12 @@ module _ {k : Stack} {ρ : Room} {f : Bool} where
   unfolding putBlanks putKey putValue nesting
   value-true s (letters a) = next [] tt (G.literal G.trueName) (fits-nothing ρ) a
 
-container-open : {x : Kind} {k : Stack} {f : Bool} (ρ : Room) (s : List ℕ) → ItemRest (x ∷ k) ρ x true s → ItemRest k (wider ρ) array f (opening x ∷ s)
+container-open : {x : Kind} {k : Stack} {f : Bool} (ρ : Room) (s : List ℕ) → ItemRest (x ∷ k) ρ x true s →
+    ItemRest k (wider ρ) array f (opening x ∷ s)
 unfolding putBlanks putKey putValue nesting
-container-open {x} ρ s (next w key v q (inside m q′ a)) = next [] tt (G.container x (G.items w key v m)) (fits-more ρ (max (nesting v) (moreNesting m)) (fits-max ρ (nesting v) (moreNesting m) q q′)) a
+container-open {x} ρ s (next w key v q (inside m q′ a)) =
+    next [] tt (G.container x (G.items w key v m))
+    (fits-more ρ (max (nesting v) (moreNesting m)) (fits-max ρ (nesting v) (moreNesting m) q q′)) a
 container-open {x} ρ s (shut w a) = next [] tt (G.container x (G.empty w)) (fits-more ρ 0 (fits-nothing ρ)) a
 
 value-open : {k : Stack} {f : Bool} (x : Kind) (ρ : Room) (s : List ℕ) → RestOf (entered x k ρ) s → ItemRest k ρ array f (opening x ∷ s)
@@ -363,18 +372,108 @@ module _ {k : Stack} {ρ : Room} where
   minus-zero s r = minuses G.nought r
 
 back-zero : (k : Stack) (ρ : Room) → Backs (ZeroRest k ρ) k ρ (rules afterZero (top k))
-back-zero k ρ = (zero-point, (zero-e G.small, (zero-e G.big, widen (After k ρ) (ZeroRest k ρ) k ρ (afterRules (top k)) zero-over (back-after k ρ))))
+back-zero k ρ =
+    (zero-point, (zero-e G.small, (zero-e G.big, widen (After k ρ) (ZeroRest k ρ) k ρ (afterRules (top k)) zero-over (back-after k ρ))))
 
 -- every rule of every control state
 back : (c : Ctl) (k : Stack) (ρ : Room) → Backs (Rest c k ρ) k ρ (rules c (top k))
-back (item array f) k ρ =
-    (value-digit, (item-blank B.space, (item-blank B.feed, (item-blank B.return, (item-blank B.tab, (value-zero, (value-minus, (value-quote, (value-false, (value-null, (value-true, (value-open array ρ, (value-open object ρ, back-close f array k ρ)))))))))))))
-back (item object f) k ρ = (item-blank B.space, (item-blank B.feed, (item-blank B.return, (item-blank B.tab, (name-open, back-close f object k ρ)))))
+back (item array f) k ρ = (
+  value-digit,
+  (
+    item-blank B.space,
+    (
+      item-blank B.feed,
+      (
+        item-blank B.return,
+        (
+          item-blank B.tab,
+          (
+            value-zero,
+            (
+              value-minus,
+              (
+                value-quote,
+                (
+                  value-false,
+                  (
+                    value-null,
+                    (
+                      value-true,
+                      (
+                        value-open array ρ,
+                        (
+                          value-open object ρ,
+                          back-close f array k ρ,
+                        ),
+                      ),
+                    ),
+                  ),
+                ),
+              ),
+            ),
+          ),
+        ),
+      ),
+    ),
+  ),
+)
+back (item object f) k ρ =
+    (item-blank B.space, (item-blank B.feed, (item-blank B.return, (item-blank B.tab, (name-open, back-close f object k ρ)))))
 back colon k ρ = (colon-blank B.space, (colon-blank B.feed, (colon-blank B.return, (colon-blank B.tab, (colon-colon, tt)))))
 back after k ρ = back-after k ρ
-back (inString f) k ρ = (string-low, (string-mid, (string-high, (string-close f, (string-escape, (string-c2, (string-e0, (string-e1, (string-ed, (string-ee, (string-f0, (string-f1, (string-f4, tt)))))))))))))
-back (escaping f) k ρ =
-    ((λ s r. simple G.quote r), ((λ s r. simple G.backslash r), ((λ s r. simple G.slash r), ((λ s r. simple G.backspace r), ((λ s r. simple G.form r), ((λ s r. simple G.line r), ((λ s r. simple G.carriage r), ((λ s r. simple G.tabulator r), ((λ s r. coded r), tt)))))))))
+back (inString f) k ρ = (
+  string-low,
+  (
+    string-mid,
+    (
+      string-high,
+      (
+        string-close f,
+        (
+          string-escape,
+          (
+            string-c2,
+            (
+              string-e0,
+              (
+                string-e1,
+                (
+                  string-ed,
+                  (string-ee, (string-f0, (string-f1, (string-f4, tt)))),
+                ),
+              ),
+            ),
+          ),
+        ),
+      ),
+    ),
+  ),
+)
+back (escaping f) k ρ = (
+  (λ s r. simple G.quote r),
+  (
+    (λ s r. simple G.backslash r),
+    (
+      (λ s r. simple G.slash r),
+      (
+        (λ s r. simple G.backspace r),
+        (
+          (λ s r. simple G.form r),
+          (
+            (λ s r. simple G.line r),
+            (
+              (λ s r. simple G.carriage r),
+              (
+                (λ s r. simple G.tabulator r),
+                ((λ s r. coded r), tt),
+              ),
+            ),
+          ),
+        ),
+      ),
+    ),
+  ),
+)
 back (hexDue zero f) k ρ = back-hex (inString f) k ρ
 back (hexDue (suc n) f) k ρ = back-hex (hexDue n f) k ρ
 back (tailDue p zero f) k ρ = (in-range, tt)
@@ -385,7 +484,8 @@ back afterMinus k ρ = (minus-digit, (minus-zero, tt))
 back afterZero k ρ = back-zero k ρ
 back inInt k ρ = (int-digit, widen (ZeroRest k ρ) (IntRest k ρ) k ρ (rules afterZero (top k)) int-over (back-zero k ρ))
 back afterPoint k ρ = (in-range, tt)
-back inFrac k ρ = (frac-digit, (frac-e G.small, (frac-e G.big, widen (After k ρ) (FracRest k ρ) k ρ (afterRules (top k)) frac-over (back-after k ρ))))
+back inFrac k ρ =
+    (frac-digit, (frac-e G.small, (frac-e G.big, widen (After k ρ) (FracRest k ρ) k ρ (afterRules (top k)) frac-over (back-after k ρ))))
 back afterE k ρ = (e-digit, (e-plus, (e-minus, tt)))
 back afterSign k ρ = (in-range, tt)
 back inExp k ρ = (exp-digit, widen (After k ρ) (ExpRest k ρ) k ρ (afterRules (top k)) exp-over (back-after k ρ))

@@ -3,7 +3,7 @@ use mathlib.Core.Path.{_≡_, refl, _∙_}
 use mathlib.Core.List.{List, [], _∷_, _++_}
 use mathlib.Core.Bool.{Bool, true, false, _&&_, _||_, and-eq-true-iff}
 use mathlib.Core.Option.{Option, some, none}
-use Prim.Native.Nat.{ℕ, zero, suc, _≤_, _<_}
+use Prim.Native.Nat.{ℕ, zero, suc, _≤_}
 use native.Mathlib.Omega.{arith}
 use lib.Dec.{T, leb, ltb, leb→le}
 use borrow.Author.Tests.{le-leb, leb-true, ltb-true}
@@ -11,7 +11,7 @@ use Rattle.encoding.specs.Bytes as B
 use Rattle.encoding.specs.Bytes.{In, Blank, blankByte}
 use Rattle.json.specs.Grammar.{Kind, array, object, opening, closing}
 use Rattle.json.specs.Room.{Room, left, endless, wider}
-use Rattle.json.specs.Machine.{Ctl, item, colon, after, Stack, top, pop, State, dead, at, entered, Rule, one, span, opens, closes, lowest, highest, takes, apply, afterRules, rules, pick, step, run}
+use Rattle.json.specs.Machine.{Ctl, item, colon, after, Stack, top, pop, State, dead, at, entered, Rule, one, span, opens, closes, lowest, highest, takes, apply, afterRules, rules, pick, step}
 
 -- tests
 and-so : (x y : Bool) → T (x && y) → T x × T y
@@ -61,17 +61,20 @@ landing lo hi (r ∷ rs) k ρ =
       | false ↦ elim (ltb (highest r) lo || ltb hi (lowest r)) [ true ↦ landing lo hi rs k ρ | false ↦ none ]
     ]
 
-pub lands : (lo hi : ℕ) (rs : List Rule) (k : Stack) (ρ : Room) (st : State) → landing lo hi rs k ρ ≡ some st → (b : ℕ) → lo ≤ b → b ≤ hi → pick rs b k ρ ≡ st
+pub lands : (lo hi : ℕ) (rs : List Rule) (k : Stack) (ρ : Room) (st : State) → landing lo hi rs k ρ ≡ some st → (b : ℕ) → lo ≤ b → b ≤ hi →
+    pick rs b k ρ ≡ st
 unfolding landing pick
 lands lo hi [] k ρ st e b p q = cc
-lands lo hi (r ∷ rs) k ρ st e b p q = by (leb (lowest r) lo && leb hi (highest r)) refl (ltb (highest r) lo || ltb hi (lowest r)) refl e (λ h. lands lo hi rs k ρ st h b p q)
+lands lo hi (r ∷ rs) k ρ st e b p q =
+    by (leb (lowest r) lo && leb hi (highest r)) refl (ltb (highest r) lo || ltb hi (lowest r)) refl e (λ h. lands lo hi rs k ρ st h b p q)
   where
     by : (x : Bool) → leb (lowest r) lo && leb hi (highest r) ≡ x → (y : Bool) → ltb (highest r) lo || ltb hi (lowest r) ≡ y →
         elim x [ true ↦ some (apply r k ρ) | false ↦ elim y [ true ↦ landing lo hi rs k ρ | false ↦ none ] ] ≡ some st →
         (landing lo hi rs k ρ ≡ some st → pick rs b k ρ ≡ st) → pick (r ∷ rs) b k ρ ≡ st
     by true covered y parted h again =
         let w = and-eq-true-iff (leb (lowest r) lo) (leb hi (highest r)) .0 covered in
-        pick-this r rs b k ρ (between-takes r b (omega (arith, leb-true (lowest r) lo (w .0))) (omega (arith, leb-true hi (highest r) (w .1)))) ∙ cc
+        pick-this r rs b k ρ
+        (between-takes r b (omega (arith, leb-true (lowest r) lo (w .0))) (omega (arith, leb-true hi (highest r) (w .1)))) ∙ cc
     by false covered true parted h again =
         pick-later r rs b k ρ
         (apart-takes r b
@@ -81,11 +84,13 @@ lands lo hi (r ∷ rs) k ρ st e b p q = by (leb (lowest r) lo && leb hi (highes
     by false covered false parted h again = cc
 
 -- the step of a whole range, by one computation
-pub step-range : (c : Ctl) (k : Stack) (ρ : Room) (lo hi b : ℕ) (st : State) → landing lo hi (rules c (top k)) k ρ ≡ some st → lo ≤ b → b ≤ hi → step (at c k ρ) b ≡ st
+pub step-range : (c : Ctl) (k : Stack) (ρ : Room) (lo hi b : ℕ) (st : State) → landing lo hi (rules c (top k)) k ρ ≡ some st → lo ≤ b →
+    b ≤ hi → step (at c k ρ) b ≡ st
 unfolding step
 step-range c k ρ lo hi b st e p q = lands lo hi (rules c (top k)) k ρ st e b p q
 
-pub step-in : (c : Ctl) (k : Stack) (ρ : Room) {lo hi : ℕ} (b : In lo hi) (st : State) → landing lo hi (rules c (top k)) k ρ ≡ some st → step (at c k ρ) (b .byte) ≡ st
+pub step-in : (c : Ctl) (k : Stack) (ρ : Room) {lo hi : ℕ} (b : In lo hi) (st : State) → landing lo hi (rules c (top k)) k ρ ≡ some st →
+    step (at c k ρ) (b .byte) ≡ st
 step-in c k ρ {lo} {hi} b st e = step-range c k ρ lo hi (b .byte) st e (in-low b) (in-high b)
 
 -- the first rule that has the byte, by what is known of the byte; none where no rule has it
@@ -109,7 +114,8 @@ unfolding step
 step-by c k ρ p = picks k ρ p
 
 -- in a control state that goes on as after a value, a byte that only the later rules can have
-pub step-over : (c : Ctl) (k : Stack) (ρ : Room) {b : ℕ} (rs : List Rule) → rules c (top k) ≡ rs ++ afterRules (top k) → Picks rs b none → step (at c k ρ) b ≡ step (at after k ρ) b
+pub step-over : (c : Ctl) (k : Stack) (ρ : Room) {b : ℕ} (rs : List Rule) → rules c (top k) ≡ rs ++ afterRules (top k) → Picks rs b none →
+    step (at c k ρ) b ≡ step (at after k ρ) b
 unfolding step
 step-over c k ρ {b} rs e p = rw e (later rs p)
   where
@@ -182,7 +188,8 @@ pick-freed [] b k ρ = both-dead
 pick-freed (r ∷ rs) b k ρ = by (takes r b) refl (pick-freed rs b k ρ)
   where
     by : (x : Bool) → takes r b ≡ x → Freed b (pick rs b k ρ) (pick rs b k endless) →
-        Freed b (elim x as (λ _. State) [ true ↦ apply r k ρ | false ↦ pick rs b k ρ ]) (elim x as (λ _. State) [ true ↦ apply r k endless | false ↦ pick rs b k endless ])
+        Freed b (elim x as (λ _. State) [ true ↦ apply r k ρ | false ↦ pick rs b k ρ ])
+        (elim x as (λ _. State) [ true ↦ apply r k endless | false ↦ pick rs b k endless ])
     by true e again = apply-freed r b k ρ e
     by false e again = again
 
