@@ -14,3 +14,5 @@ pub mod SpansAre
 pub mod MarksStep
 pub mod MarksAre
 pub mod PeakIs
+pub mod PeakBound
+pub mod NodelistIs

@@ -36,10 +36,10 @@ module _ (q : List Step) (i : ℕ) where
       let both = and-is (ltb i (length q)) (picks (take i q) []) in
       (λ e. (ltb-true i (length q) (both .0 e .0), both .0 e .1), λ h. both .1 (lt-ltb i (length q) (h .0), h .1))
 
-  abbrev Kept : Way → Type 0
+  abbrev pub Kept : Way → Type 0
   Kept w = (isDeep (getElem? q i) ≡ true) × (mark q i w ≡ true)
 
-  mark-below : (l : Label) (w : Way) → (mark q i (l ∷ w) ≡ true) ↔ ((i < length q) × ((picks (take i q) (l ∷ w) ≡ true) ⊎ Kept w))
+  pub mark-below : (l : Label) (w : Way) → (mark q i (l ∷ w) ≡ true) ↔ ((i < length q) × ((picks (take i q) (l ∷ w) ≡ true) ⊎ Kept w))
   unfolding mark
   mark-below l w = (
     λ e.
