@@ -1,11 +1,11 @@
 -- Walking by children: a node's visits are the node and then the visits of its children; and induction from the children up.
 use mathlib.Core.Path.{_≡_, refl, sym, ap, subst}
-use mathlib.Core.List.{List, [], _∷_, _++_, flatMap, List·Memᴰ, List·Memᴰ·head, List·Memᴰ·tail, List·Memᴰ·not-nil}
+use mathlib.Core.List.{List, _∷_, _++_, flatMap, List·Memᴰ, List·Memᴰ·head, List·Memᴰ·tail, List·Memᴰ·not-nil}
 use Prim.Native.Nat.{ℕ, _+_}
 use lib.ListN.{length}
 use Rattle.json.specs.Grammar.{Kind, Value, literal, number, string, container, Items, empty, items, More, end, more}
-use Rattle.select.specs.Nodes.{Label, Node, Child, child, size, keySize, labelOf, children, IsChild, valueChildren, itemsChildren, moreChildren}
-use Rattle.select.specs.Visits.{Visit, visit, visits, itemsVisits, moreVisits, nodeVisits}
+use Rattle.select.specs.Nodes.{Label, Node, Child, size, keySize, labelOf, children, IsChild, valueChildren, itemsChildren, moreChildren}
+use Rattle.select.specs.Visits.{Visit, visit, visits, moreVisits, nodeVisits}
 
 module _ {S : Type 0} (next : S → Label → S) (s : S) where
   -- the visits below one child of a node with the state s

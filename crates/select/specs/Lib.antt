@@ -16,3 +16,4 @@ pub mod MarksAre
 pub mod PeakIs
 pub mod PeakBound
 pub mod NodelistIs
+pub mod Examples

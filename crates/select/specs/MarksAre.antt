@@ -13,7 +13,7 @@ use Rattle.json.specs.Grammar.{Tree}
 use Rattle.query.specs.Steps.{Step}
 use Rattle.select.specs.Nodes.{Label, Node, IsChild, IsNode, root}
 use Rattle.select.specs.Picked.{Hits, PickedFrom, Picked}
-use Rattle.select.specs.Marks.{IsDeepStep, Mark, SameMarks}
+use Rattle.select.specs.Marks.{Mark, SameMarks}
 use Rattle.select.specs.Marks as M
 use Rattle.select.specs.Visits.{Way}
 use Rattle.select.specs.Ways.{picksBack, picks, isDeep, mark, sameMarks}

@@ -1,16 +1,16 @@
 -- RFC 9535's nodelist has just the nodes that a query picks out.
 use mathlib.Core.Path.{_≡_, refl, sym, ap, subst, _∙_}
 use mathlib.Core.Logic.{_↔_, _⊎_, inl, inr}
-use mathlib.Core.List.{List, [], _∷_, _++_, reverse, reverseAux, map, flatMap, List·Memᴰ, List·Memᴰ·head, List·Memᴰ·tail, List·Memᴰ·not-nil, List·Memᴰ·cases-cons, List·Memᴰ·eq-of-singleton, Memᴰ·cast, Memᴰ·map, Memᴰ·of-map}
+use mathlib.Core.List.{List, [], _∷_, _++_, reverseAux, map, flatMap, List·Memᴰ, List·Memᴰ·head, List·Memᴰ·tail, List·Memᴰ·not-nil, List·Memᴰ·cases-cons, List·Memᴰ·eq-of-singleton, Memᴰ·cast, Memᴰ·map, Memᴰ·of-map}
 use mathlib.Core.Bool.{Bool, true, false, false≢true}
 use Rattle.json.specs.Grammar.{Tree}
 use Rattle.query.specs.Steps.{Selector, Step}
 use Rattle.select.specs.Nodes.{Label, Node, Child, children, IsChild, Below, root}
-use Rattle.select.specs.Picked.{Hits, TakesChild, TakesBelow, TakesAs, Takes, PickedBack, PickedFrom, Picked}
+use Rattle.select.specs.Picked.{TakesChild, TakesAs, Takes, PickedBack, Picked}
 use Rattle.select.specs.Visits.{Visit, Way, step, nodeVisits}
 use Rattle.select.specs.Ways.{hits}
 use Rattle.select.specs.Nodelist.{nodeIf, selected, visitedNodes, descendants, concatMap, segment, applied, nodelist}
-use Rattle.select.specs.Reach.{Reach, visited-is, below-is, mem-flatMap, of-flatMap}
+use Rattle.select.specs.Reach.{visited-is, below-is, mem-flatMap, of-flatMap}
 use Rattle.select.specs.Truth.{hits-is}
 
 concatMap-is : (f : Node → List Node) (ns : List Node) → concatMap f ns ≡ flatMap f ns

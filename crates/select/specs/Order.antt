@@ -2,12 +2,12 @@
 use mathlib.Core.Path.{_≡_, refl, sym, ap, subst, _∙_}
 use mathlib.Core.Logic.{_⊎_, inl, inr}
 use mathlib.Core.List.{List, [], _∷_, _++_, map, flatMap, List·Memᴰ, List·Memᴰ·head, List·Memᴰ·tail, List·Memᴰ·not-nil, List·Memᴰ·cases-cons}
-use mathlib.Core.Option.{Option, some, none}
+use mathlib.Core.Option.{some}
 use Prim.Native.Nat.{ℕ, zero, suc, _+_, _≤_, _<_}
 use native.Mathlib.Numerals.{add-one}
 use native.Mathlib.Omega.{arith}
 use lib.ListN.{length, getElem?}
-use Rattle.json.specs.Grammar.{Kind, Value, literal, number, string, container, Items, empty, items, More, end, more, closing, Key, putKey, putValue, putItems, putMore, Tree}
+use Rattle.json.specs.Grammar.{Kind, Value, literal, number, string, container, Items, empty, items, More, end, more, putValue, putItems, putMore, Tree}
 use Rattle.json.specs.Append.{length-blanks, length-key, length-value, value-positive}
 use Rattle.select.specs.Nodes.{Label, Node, Child, size, keySize, endOf, root, children, valueChildren, itemsChildren, moreChildren, IsChild, Below}
 use Rattle.select.specs.Nodes as N

@@ -1,6 +1,6 @@
 -- The most frames among the visits is the peak: the greatest number of frames on one path down from the root.
 use mathlib.Core.Path.{_≡_, refl, sym, ap, subst, _∙_}
-use mathlib.Core.Logic.{_↔_, _⊎_, inl, inr}
+use mathlib.Core.Logic.{_⊎_, inl, inr}
 use mathlib.Core.List.{List, [], _∷_, List·Memᴰ, List·Memᴰ·head, List·Memᴰ·tail, List·Memᴰ·not-nil, List·Memᴰ·cases-cons}
 use mathlib.Core.Bool.{Bool, true, false, false≢true}
 use Prim.Native.Nat.{ℕ, suc, _+_, _≤_, _<_, max}
@@ -12,7 +12,7 @@ use lib.ListN.{length}
 use Rattle.json.specs.Grammar.{Value, literal, number, string, container, Tree}
 use Rattle.query.specs.Steps.{Step}
 use Rattle.select.specs.Nodes.{Label, Node, Child, valueChildren, children, IsChild, IsContainer, holds, root}
-use Rattle.select.specs.Marks.{SameMarks, Frames, Peak}
+use Rattle.select.specs.Marks.{Frames, Peak}
 use Rattle.select.specs.Marks as M
 use Rattle.select.specs.Visits.{Visit, Way, nodes}
 use Rattle.select.specs.Ways.{sameMarks, frameIf, frames, containerFrames, mostFrames, peak}

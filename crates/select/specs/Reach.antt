@@ -1,9 +1,9 @@
 -- Which nodes are reached, and by which ways: the nodes that a walk visits.
-use mathlib.Core.Path.{_≡_, refl, sym, ap, subst, subst₂, _∙_}
+use mathlib.Core.Path.{_≡_, refl, sym, ap, subst}
 use mathlib.Core.Logic.{_↔_, _⊎_, inl, inr}
-use mathlib.Core.List.{List, [], _∷_, _++_, map, flatMap, List·Memᴰ, List·Memᴰ·head, List·Memᴰ·tail, List·Memᴰ·not-nil, List·Memᴰ·cases-cons, List·Memᴰ·append-cases, Memᴰ·cast, Memᴰ·append-left, Memᴰ·append-right, Memᴰ·map, Memᴰ·of-map}
+use mathlib.Core.List.{List, [], _∷_, flatMap, List·Memᴰ, List·Memᴰ·head, List·Memᴰ·tail, List·Memᴰ·not-nil, List·Memᴰ·cases-cons, List·Memᴰ·append-cases, Memᴰ·cast, Memᴰ·append-left, Memᴰ·append-right, Memᴰ·map, Memᴰ·of-map}
 use Rattle.json.specs.Grammar.{Tree}
-use Rattle.select.specs.Nodes.{Label, Node, Child, children, IsChild, Below, IsNode, root}
+use Rattle.select.specs.Nodes.{Label, Node, children, IsChild, Below, root}
 use Rattle.select.specs.Nodes as N
 use Rattle.select.specs.Visits.{Visit, Way, step, nodeVisits, nodes}
 use Rattle.select.specs.VisitsMap.{over, reach, nodeVisits-are}
