@@ -17,3 +17,4 @@ pub mod PeakIs
 pub mod PeakBound
 pub mod NodelistIs
 pub mod Examples
+pub mod Dead

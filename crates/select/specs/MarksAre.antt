@@ -87,7 +87,7 @@ module _ (q : List Step) (i : ℕ) where
     )
 
 -- the test of n marks compares the first n
-first-marks : (q : List Step) (n : ℕ) (w w′ : Way) → (sameMarks q n w w′ ≡ true) ↔ ((i : ℕ) → i < n → mark q i w ≡ mark q i w′)
+pub first-marks : (q : List Step) (n : ℕ) (w w′ : Way) → (sameMarks q n w w′ ≡ true) ↔ ((i : ℕ) → i < n → mark q i w ≡ mark q i w′)
 unfolding sameMarks
 first-marks q zero w w′ = (λ e i h. absurd (omega arith), λ h. refl)
 first-marks q (suc n) w w′ = go (first-marks q n w w′)

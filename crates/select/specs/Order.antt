@@ -9,12 +9,12 @@ use native.Mathlib.Omega.{arith}
 use lib.ListN.{length, getElem?}
 use Rattle.json.specs.Grammar.{Kind, Value, literal, number, string, container, Items, empty, items, More, end, more, putValue, putItems, putMore, Tree}
 use Rattle.json.specs.Append.{length-blanks, length-key, length-value, value-positive}
-use Rattle.select.specs.Nodes.{Label, Node, Child, size, keySize, endOf, root, children, valueChildren, itemsChildren, moreChildren, IsChild, Below}
+use Rattle.select.specs.Nodes.{Label, Node, Child, size, keySize, endOf, root, children, valueChildren, itemsChildren, moreChildren, IsChild, Below, IsNode}
 use Rattle.select.specs.Nodes as N
 use Rattle.select.specs.Visits.{Visit, Way, step, nodeVisits, nodes}
 use Rattle.select.specs.VisitsMap.{map-append}
 use Rattle.select.specs.Children.{childVisits, visits-children, node-induction}
-use Rattle.select.specs.Reach.{Reach, visited-is}
+use Rattle.select.specs.Reach.{Reach, visited-is, below-is}
 
 -- the numbers strictly rise, from a on, and stay below e
 abbrev pub Rises : ℕ → List ℕ → ℕ → Type 0
@@ -174,6 +174,11 @@ way-unique {r} {w} {w′} {n} {n′} p p′ h =
     (visited-is r w′ n′ .1 p′)
     h in
     (ap (λ v. v .state) e, ap (λ v. v .node) e)
+
+-- so a place is the first byte of one node at most
+pub node-unique : (t : Tree) (n n′ : Node) → IsNode t n → IsNode t n′ → n .first ≡ n′ .first → n ≡ n′
+unfolding IsNode
+node-unique t n n′ h h′ e = way-unique (below-is (root t) n .0 h .1) (below-is (root t) n′ .0 h′ .1) e .1
 
 -- a node has at least one byte
 pub first-before-end : (n : Node) → n .first < endOf n

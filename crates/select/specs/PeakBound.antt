@@ -9,16 +9,16 @@ use native.Mathlib.Omega.{arith}
 use borrow.Author.Tests.{ltb-true, ltb-false}
 use lib.Dec.{ltb}
 use lib.ListN.{length, getElem?}
-use Rattle.json.specs.Grammar.{Value, literal, number, string, container, Tree}
+use Rattle.json.specs.Grammar.{Tree}
 use Rattle.query.specs.Steps.{Step}
 use Rattle.select.specs.Nodes.{Label}
 use Rattle.select.specs.Marks.{Peak}
 use Rattle.select.specs.Visits.{Visit, Way, nodes}
 use Rattle.select.specs.Ways.{isDeep, mark, sameMarks, frameIf, frames, containerFrames, mostFrames, peak}
 use Rattle.select.specs.Truth.{and-is, or-is}
-use Rattle.select.specs.MarksStep.{stepHits, mark-over, mark-root-suc, mark-zero, mark-suc}
+use Rattle.select.specs.MarksStep.{mark-root-suc, mark-less, Origin, mark-origin}
 use Rattle.select.specs.MarksAre.{mark-below}
-use Rattle.select.specs.PeakIs.{peak-is, peak-unique}
+use Rattle.select.specs.PeakIs.{most-bound, peak-is, peak-unique}
 
 abbrev one : Bool → ℕ
 one true = 1
@@ -86,33 +86,6 @@ module _ (q : List Step) (w w′ : Way) (grow : (i : ℕ) → mark q i w ≡ tru
       go true false h e rest = absurd (false≢true (h refl))
       go false true h e rest = omega (arith, count-grows n)
       go false false h e rest = omega (arith, rest e)
-
--- a mark is less than the number of steps
-mark-less : (q : List Step) (i : ℕ) (w : Way) → mark q i w ≡ true → i < length q
-mark-less q i w e = go (ltb i (length q)) refl
-  where
-    go : (b : Bool) → ltb i (length q) ≡ b → i < length q
-    go true t = ltb-true i (length q) t
-    go false t = absurd (false≢true (sym (mark-over q i w (ltb-false i (length q) t)) ∙ e))
-
--- a child's mark is its parent's, by a deep step, or one more than a mark of its parent
-abbrev Origin : List Step → ℕ → Way → Type 0
-Origin q i w = ((isDeep (getElem? q i) ≡ true) × (mark q i w ≡ true)) ⊎ ((j : ℕ) × (i ≡ suc j) × (mark q j w ≡ true))
-
-mark-origin : (q : List Step) (i : ℕ) (l : Label) (w : Way) → mark q i (l ∷ w) ≡ true → Origin q i w
-mark-origin q zero l w e = inl (and-is (isDeep (getElem? q 0)) (mark q 0 w) .0 (sym (mark-zero q l w) ∙ e))
-mark-origin q (suc i) l w e = go (or-is (stepHits (getElem? q i) l && mark q i w) (isDeep (getElem? q (suc i)) && mark q (suc i) w) .0 alternatives)
-  where
-    alternatives : ((stepHits (getElem? q i) l && mark q i w) || (isDeep (getElem? q (suc i)) && mark q (suc i) w)) ≡ true
-    alternatives =
-        and-is
-        (ltb (suc i) (length q))
-        ((stepHits (getElem? q i) l && mark q i w) || (isDeep (getElem? q (suc i)) && mark q (suc i) w))
-        .0 (sym (mark-suc q i l w) ∙ e) .1
-
-    go : ((stepHits (getElem? q i) l && mark q i w) ≡ true) ⊎ ((isDeep (getElem? q (suc i)) && mark q (suc i) w) ≡ true) → Origin q (suc i) w
-    go (inl h) = inr (i, refl, and-is (stepHits (getElem? q i) l) (mark q i w) .0 h .1)
-    go (inr h) = inl (and-is (isDeep (getElem? q (suc i))) (mark q (suc i) w) .0 h)
 
 -- p plain steps, and then deep ones
 pub record PlainThenDeep (p : ℕ) (q : List Step) : Type 0 where
@@ -206,22 +179,11 @@ module _ (p : ℕ) (q : List Step) (kinds : PlainThenDeep p q) where
       go (inl h) = omega (arith, h .short, h .few)
       go (inr h) = omega (arith, h .few, count-low q p (length q) w (h .low))
 
-most-bound : (q : List Step) (b : ℕ) → ((w : Way) → frames q w ≤ b) → (vs : List (Visit Way)) → mostFrames q vs ≤ b
-unfolding mostFrames containerFrames
-most-bound q b h [] = omega arith
-most-bound q b h (v ∷ vs) = omega (arith, own (v .node .value), most-bound q b h vs)
-  where
-    own : (x : Value) → containerFrames x (frames q (v .state)) ≤ b
-    own (literal l) = omega arith
-    own (number g n f e) = omega arith
-    own (string cs) = omega arith
-    own (container k is) = h (v .state)
-
 -- the bound for p plain steps and then deep ones
 pub peak-bound : (t : Tree) (q : List Step) (k p : ℕ) → PlainThenDeep p q → Peak t q k → k ≤ max p (length q - 1)
 unfolding peak
 peak-bound t q k p h x =
-    omega (arith, peak-unique x (peak-is t q), most-bound q (max p (length q - 1)) (frames-bound p q h) (nodes t))
+    omega (arith, peak-unique x (peak-is t q), most-bound q (max p (length q - 1)) (nodes t) (λ v m. frames-bound p q h (v .state)))
 
 -- every step is of this kind
 abbrev pub AllSteps : (deep : Bool) → List Step → Type 0

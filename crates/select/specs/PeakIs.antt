@@ -95,6 +95,19 @@ module _ (q : List Step) where
       go (inl e) rest = omega (arith, ap own e)
       go (inr h) rest = omega (arith, rest h)
 
+  -- no more than what bounds the frames of each
+  pub most-bound : (b : ℕ) (vs : List (Visit Way)) → ((v : Visit Way) → List·Memᴰ v vs → frames q (v .state) ≤ b) → mostFrames q vs ≤ b
+  unfolding mostFrames containerFrames
+  most-bound b [] h = omega arith
+  most-bound b (v ∷ vs) h =
+      omega (arith, less (v .node .value), h v (List·Memᴰ·head refl), most-bound b vs (λ u m. h u (List·Memᴰ·tail m)))
+    where
+      less : (x : Value) → containerFrames x (frames q (v .state)) ≤ frames q (v .state)
+      less (literal l) = omega arith
+      less (number g n f e) = omega arith
+      less (string cs) = omega arith
+      less (container k is) = omega arith
+
   -- the most is none, or that of a container
   abbrev Attained : List (Visit Way) → ℕ → Type 0
   Attained vs k = (v : Visit Way) × List·Memᴰ v vs × IsContainer (v .node) × (frames q (v .state) ≡ k)

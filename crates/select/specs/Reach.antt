@@ -66,10 +66,10 @@ module _ (b : Way) where
       subst (λ (z : List (Visit Way)). List·Memᴰ x z) (sym (visits-children step b n)) (List·Memᴰ·tail (mem-flatMap (childVisits step b) h m))
 
 -- a visited node is reached by its way
-abbrev Reached : Node → Type 0
+abbrev pub Reached : Node → Type 0
 Reached n = (b : Way) (x : Visit Way) → List·Memᴰ x (nodeVisits step n b) → ReachFrom n b (x .state) (x .node)
 
-visit-reach : (n : Node) → Reached n
+pub visit-reach : (n : Node) → Reached n
 unfolding IsChild
 visit-reach = node-induction Reached up
   where
