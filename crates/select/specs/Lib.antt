@@ -18,3 +18,4 @@ pub mod PeakBound
 pub mod NodelistIs
 pub mod Examples
 pub mod Dead
+pub mod Stands
