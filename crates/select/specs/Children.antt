@@ -1,4 +1,5 @@
 -- Walking by children: a node's visits are the node and then the visits of its children; and induction from the children up.
+-- With these two no later law goes by cases of the grammar. Assumes nothing.
 use mathlib.Core.Path.{_≡_, refl, sym, ap, subst}
 use mathlib.Core.List.{List, _∷_, _++_, flatMap, List·Memᴰ, List·Memᴰ·head, List·Memᴰ·tail, List·Memᴰ·not-nil}
 use Prim.Native.Nat.{ℕ, _+_}

@@ -1,21 +1,22 @@
--- Below a node without marks nothing is picked out and no frame is added.
+-- Below a node without marks nothing is picked out and no frame is added: a mark or a pick of a child comes from a mark of its parent.
+-- Assumes nothing.
 use mathlib.Core.Path.{_≡_, refl, sym, ap, subst, _∙_}
-use mathlib.Core.Logic.{_⊎_, inl, inr}
-use mathlib.Core.List.{List, [], _∷_, flatMap, List·Memᴰ, List·Memᴰ·head, List·Memᴰ·tail}
+use mathlib.Core.Logic.{inl, inr}
+use mathlib.Core.List.{List, [], _∷_, List·Memᴰ, List·Memᴰ·head, List·Memᴰ·tail}
 use mathlib.Core.Bool.{Bool, true, false, _&&_, false≢true, and-false}
-use Prim.Native.Nat.{ℕ, suc, _≤_}
+use Prim.Native.Nat.{ℕ, _≤_}
 use native.Mathlib.Omega.{arith}
 use lib.ListN.{length, getElem?}
 use Rattle.json.specs.Grammar.{Kind, Items}
 use Rattle.query.specs.Steps.{Step}
 use Rattle.select.specs.Nodes.{Label, Node, itemsChildren}
 use Rattle.select.specs.Visits.{Visit, Way, step, itemsVisits}
-use Rattle.select.specs.Ways.{picksBack, picks, mark, sameMarks, frameIf, frames, spanIf, pickedSpans, mostFrames}
+use Rattle.select.specs.Ways.{picksBack, picks, mark, frames, spanIf, pickedSpans, mostFrames}
 use Rattle.select.specs.Ways as W
 use Rattle.select.specs.Children.{childVisits, itemsVisits-are}
 use Rattle.select.specs.Reach.{ReachFrom, start, down, visit-reach, of-flatMap}
 use Rattle.select.specs.MarksStep.{stepHits, picks-step, Origin, mark-origin}
-use Rattle.select.specs.MarksAre.{first-marks}
+use Rattle.select.specs.MarksAre.{frames-same}
 use Rattle.select.specs.PeakIs.{most-bound}
 
 -- the node at a way is dead: it has no mark
@@ -37,11 +38,7 @@ module _ (q : List Step) (l : Label) (w : Way) (none : NoMarks q w) where
 
   -- and costs no frame
   pub dead-frames : frames q (l ∷ w) ≡ frames q w
-  unfolding frames frameIf
-  dead-frames =
-      ap
-      (λ (b : Bool). frameIf b (frames q w))
-      (first-marks q (length q) w (l ∷ w) .1 (λ i h. none i ∙ sym (dead-child i)))
+  dead-frames = frames-same q l w (λ i. none i ∙ sym (dead-child i))
 
 -- and it is not picked out
 pub dead-unpicked : (q : List Step) (l : Label) (w : Way) → NoMarks q w → picks q (l ∷ w) ≡ false

@@ -1,13 +1,14 @@
--- How marks pass from a node to its children: the law that a walk goes by.
+-- How marks pass from a node to its children: the laws that a walk goes by.
+-- The first i + 1 steps pick out what step i + 1 takes from a node that the first i pick out, or from one below it, which is mark i. Assumes nothing.
 use mathlib.Core.Path.{_≡_, refl, sym, ap, ap₂, _∙_}
 use mathlib.Core.Logic.{_⊎_, inl, inr}
-use mathlib.Core.List.{List, [], _∷_, _++_, reverse, reverse-append, reverse-reverse}
+use mathlib.Core.List.{List, [], _∷_, _++_, reverse, reverse-append, reverse-reverse, cons≢nil}
 use mathlib.Core.Bool.{Bool, true, false, _&&_, _||_, false≢true, or-false, and-true, and-false}
 use mathlib.Core.Option.{Option, some, none}
 use Prim.Native.Nat.{ℕ, zero, suc, _≤_, _<_}
 use native.Mathlib.Omega.{arith}
 use borrow.Author.Tests.{ltb-true, ltb-false, lt-ltb, le-ltb}
-use lib.Dec.{ltb}
+use lib.Dec.{ltb, eqb, eqb·suc-zero}
 use lib.ListN.{length, take, getElem?}
 use lib.Seq.{take-length}
 use Rattle.query.specs.Steps.{Step}
@@ -129,7 +130,7 @@ module _ (q : List Step) where
       go none e = absurd (omega (arith, step-none q k e))
       go (some s) e = ap (λ (z : List Step). picks z (l ∷ w)) (sym (ap (λ (n : ℕ). take n q) (sym h) ∙ take-length q)) ∙ picks-mark q k s e l w
 
-  -- the root is picked out if there are no steps
+  -- the root is picked out only if there are no steps
   pub picks-root : picks q [] ≡ true → q ≡ []
   unfolding picks picksBack
   picks-root e = sym (reverse-reverse q) ∙ ap reverse (go (reverse q) e)
@@ -137,6 +138,21 @@ module _ (q : List Step) where
       go : (b : List Step) → picksBack b [] ≡ true → b ≡ []
       go [] e = refl
       go (s ∷ b) e = absurd (false≢true e)
+
+-- so the root's pick is a test of the number of steps
+pub picks-top : (q : List Step) → picks q [] ≡ eqb (length q) 0
+unfolding picks picksBack
+picks-top [] = refl
+picks-top (s ∷ q) = go (picks (s ∷ q) []) refl ∙ sym (eqb·suc-zero (length q))
+  where
+    go : (b : Bool) → picks (s ∷ q) [] ≡ b → picks (s ∷ q) [] ≡ false
+    go true e = absurd (cons≢nil (picks-root (s ∷ q) e))
+    go false e = e
+
+-- without steps no child is picked out
+pub picks-none : (l : Label) (w : Way) → picks [] (l ∷ w) ≡ false
+unfolding picks picksBack
+picks-none l w = refl
 
 -- a mark is less than the number of steps
 pub mark-less : (q : List Step) (i : ℕ) (w : Way) → mark q i w ≡ true → i < length q

@@ -1,4 +1,5 @@
 -- Where nodes stand: those that a walk visits begin at strictly rising places, so that no two begin at the same one.
+-- The children of a node stand apart, one after the other, behind its first byte and before its end. Assumes nothing.
 use mathlib.Core.Path.{_≡_, refl, sym, ap, subst, _∙_}
 use mathlib.Core.Logic.{_⊎_, inl, inr}
 use mathlib.Core.List.{List, [], _∷_, _++_, map, flatMap, List·Memᴰ, List·Memᴰ·head, List·Memᴰ·tail, List·Memᴰ·not-nil, List·Memᴰ·cases-cons}

@@ -1,9 +1,10 @@
 -- How high a peak can be: where p plain steps stand before deep ones, at most the number of steps less one, or p where no deep one follows.
 -- On the plain steps a node has at most the mark of its depth; from there on marks are only added, and each frame adds one more.
+-- Assumes nothing.
 use mathlib.Core.Path.{_≡_, refl, sym, ap, subst, _∙_}
 use mathlib.Core.Logic.{_⊎_, inl, inr}
 use mathlib.Core.List.{List, [], _∷_, List·Memᴰ, List·Memᴰ·head, List·Memᴰ·tail}
-use mathlib.Core.Bool.{Bool, true, false, _&&_, _||_, Bool·beq, false≢true}
+use mathlib.Core.Bool.{Bool, true, false, _&&_, Bool·beq, false≢true}
 use Prim.Native.Nat.{ℕ, zero, suc, _+_, _-_, _≤_, _<_, max}
 use native.Mathlib.Omega.{arith}
 use borrow.Author.Tests.{ltb-true, ltb-false}
@@ -13,9 +14,8 @@ use Rattle.json.specs.Grammar.{Tree}
 use Rattle.query.specs.Steps.{Step}
 use Rattle.select.specs.Nodes.{Label}
 use Rattle.select.specs.Marks.{Peak}
-use Rattle.select.specs.Visits.{Visit, Way, nodes}
-use Rattle.select.specs.Ways.{isDeep, mark, sameMarks, frameIf, frames, containerFrames, mostFrames, peak}
-use Rattle.select.specs.Truth.{and-is, or-is}
+use Rattle.select.specs.Visits.{Way, nodes}
+use Rattle.select.specs.Ways.{isDeep, mark, sameMarks, frameIf, frames, peak}
 use Rattle.select.specs.MarksStep.{mark-root-suc, mark-less, Origin, mark-origin}
 use Rattle.select.specs.MarksAre.{mark-below}
 use Rattle.select.specs.PeakIs.{most-bound, peak-is, peak-unique}

@@ -1,4 +1,5 @@
 -- The most frames among the visits is the peak: the greatest number of frames on one path down from the root.
+-- A path down is the way to its last node, and the test of marks on ways counts its frames. Assumes nothing.
 use mathlib.Core.Path.{_≡_, refl, sym, ap, subst, _∙_}
 use mathlib.Core.Logic.{_⊎_, inl, inr}
 use mathlib.Core.List.{List, [], _∷_, List·Memᴰ, List·Memᴰ·head, List·Memᴰ·tail, List·Memᴰ·not-nil, List·Memᴰ·cases-cons}

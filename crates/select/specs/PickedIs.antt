@@ -1,4 +1,5 @@
 -- The test on ways finds just what a query picks out.
+-- By induction on the steps: a step takes from a node, or from one below it, whose way is a part of the way. Assumes nothing.
 use mathlib.Core.Path.{_≡_, refl, sym, subst, _∙_}
 use mathlib.Core.Logic.{_↔_, _⊎_, inl, inr}
 use mathlib.Core.List.{List, [], _∷_, reverse}

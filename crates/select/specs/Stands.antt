@@ -1,12 +1,12 @@
 -- The nodes of a record stand where they are said to: from its first byte to its last one, a node's bytes are those of its value.
+-- What stands before a child in its parent's text has the length by which its place is counted. Assumes nothing.
 use mathlib.Core.Path.{_≡_, refl, sym, ap, subst, _∙_}
-use mathlib.Core.Logic.{_⊎_, inl, inr}
-use mathlib.Core.List.{List, [], _∷_, _++_, append-assoc, List·Memᴰ, List·Memᴰ·head, List·Memᴰ·tail, List·Memᴰ·not-nil, List·Memᴰ·cases-cons}
+use mathlib.Core.List.{List, [], _∷_, _++_, append-assoc, List·Memᴰ, List·Memᴰ·head, List·Memᴰ·tail, List·Memᴰ·not-nil}
 use Prim.Native.Nat.{ℕ, _+_, _-_}
 use native.Mathlib.Omega.{arith}
 use lib.ListN.{length, take, drop, length-append}
 use lib.Seq.{take-at, drop-at}
-use Rattle.json.specs.Grammar.{Kind, Value, literal, number, string, container, Items, empty, items, More, end, more, opening, putKey, putValue, putItems, putMore, Tree, text}
+use Rattle.json.specs.Grammar.{Kind, Value, literal, number, string, container, Items, empty, items, More, end, more, opening, putValue, putItems, putMore, Tree, text}
 use Rattle.json.specs.Append.{blanks-split, key-split, value-split, length-blanks}
 use Rattle.select.specs.Nodes.{Label, Node, Child, size, keySize, endOf, root, children, valueChildren, itemsChildren, moreChildren, IsChild, Below, IsNode}
 use Rattle.select.specs.Nodes as N

@@ -1,4 +1,4 @@
--- What a test that holds says: conjunctions, alternatives, equal names, hits.
+-- What a test that holds says: conjunctions, alternatives, equal names, hits. Assumes nothing.
 use mathlib.Core.Path.{_≡_, refl, sym, ap₂}
 use mathlib.Core.Logic.{_↔_, _⊎_, inl, inr}
 use mathlib.Core.List.{List, [], _∷_, head-eq-of-cons-eq, tail-eq-of-cons-eq, nil≢cons, cons≢nil}
