@@ -1,10 +1,11 @@
 -- Walking by children: a node's visits are the node and then the visits of its children; and induction from the children up.
+-- With these two no later law goes by cases of the grammar. Assumes nothing.
 use mathlib.Core.Path.{_≡_, refl, sym, ap, subst}
-use mathlib.Core.List.{List, [], _∷_, _++_, flatMap, List·Memᴰ, List·Memᴰ·head, List·Memᴰ·tail, List·Memᴰ·not-nil}
+use mathlib.Core.List.{List, _∷_, _++_, flatMap, List·Memᴰ, List·Memᴰ·head, List·Memᴰ·tail, List·Memᴰ·not-nil}
 use Prim.Native.Nat.{ℕ, _+_}
 use lib.ListN.{length}
 use Rattle.json.specs.Grammar.{Kind, Value, literal, number, string, container, Items, empty, items, More, end, more}
-use Rattle.select.specs.Nodes.{Label, Node, Child, child, size, keySize, labelOf, children, IsChild, valueChildren, itemsChildren, moreChildren}
+use Rattle.select.specs.Nodes.{Label, Node, Child, size, keySize, labelOf, children, IsChild, valueChildren, itemsChildren, moreChildren}
 use Rattle.select.specs.Visits.{Visit, visit, visits, itemsVisits, moreVisits, nodeVisits}
 
 module _ {S : Type 0} (next : S → Label → S) (s : S) where
@@ -19,17 +20,20 @@ module _ {S : Type 0} (next : S → Label → S) (s : S) where
       let b = a + length w + 1 + length w′ + keySize k key in
       ap (λ (z : List (Visit S)). visits next v (next s (labelOf k key j)) b ++ z) (moreVisits-are m (j + 1) (b + size v))
 
+  -- the visits of a container's items are those of its children
+  pub itemsVisits-are : {k : Kind} (is : Items k) (a : ℕ) → itemsVisits next is s a ≡ flatMap childVisits (itemsChildren is a)
+  unfolding visits nodeVisits itemsChildren flatMap
+  itemsVisits-are (empty w) a = refl
+  itemsVisits-are {k} (items w key v m) a =
+      let b = a + length w + keySize k key in
+      ap (λ (z : List (Visit S)). visits next v (next s (labelOf k key 0)) b ++ z) (moreVisits-are m 1 (b + size v))
+
   valueVisits-are : (v : Value) (a : ℕ) → visits next v s a ≡ visit s v a ∷ flatMap childVisits (valueChildren v a)
-  unfolding visits nodeVisits valueChildren flatMap
+  unfolding visits valueChildren flatMap
   valueVisits-are (literal l) a = refl
   valueVisits-are (number g n f e) a = refl
   valueVisits-are (string cs) a = refl
-  valueVisits-are (container k (empty w)) a = refl
-  valueVisits-are (container k (items w key v m)) a =
-      let b = a + 1 + length w + keySize k key in
-      ap
-      (λ (z : List (Visit S)). visit s (container k (items w key v m)) a ∷ visits next v (next s (labelOf k key 0)) b ++ z)
-      (moreVisits-are m 1 (b + size v))
+  valueVisits-are (container k is) a = ap (λ (z : List (Visit S)). visit s (container k is) a ∷ z) (itemsVisits-are is (a + 1))
 
   -- a node's visits are the node and then the visits of its children
   pub visits-children : (n : Node) → nodeVisits next n s ≡ record { state = s; node = n } ∷ flatMap childVisits (children n)

@@ -14,3 +14,8 @@ pub mod SpansAre
 pub mod MarksStep
 pub mod MarksAre
 pub mod PeakIs
+pub mod PeakBound
+pub mod NodelistIs
+pub mod Examples
+pub mod Dead
+pub mod Stands

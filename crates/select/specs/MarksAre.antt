@@ -1,10 +1,11 @@
 -- The tests on ways find just the marks of nodes; and what is picked out is told by marks.
+-- A node is reached by one way only, so what holds of some way to it holds of its way. Assumes nothing.
 use mathlib.Core.Path.{_≡_, refl, sym, ap, subst, _∙_}
 use mathlib.Core.Logic.{_↔_, _⊎_, inl, inr, ⊎-map}
 use mathlib.Core.List.{List, [], _∷_}
 use mathlib.Core.Bool.{Bool, true, false, _&&_, _||_, Bool·beq, false≢true}
 use mathlib.Core.Option.{Option, some, none}
-use Prim.Native.Nat.{ℕ, zero, suc, _≤_, _<_}
+use Prim.Native.Nat.{ℕ, zero, suc, _+_, _≤_, _<_}
 use native.Mathlib.Omega.{arith}
 use borrow.Author.Tests.{ltb-true, ltb-false, lt-ltb}
 use lib.Dec.{ltb}
@@ -13,10 +14,10 @@ use Rattle.json.specs.Grammar.{Tree}
 use Rattle.query.specs.Steps.{Step}
 use Rattle.select.specs.Nodes.{Label, Node, IsChild, IsNode, root}
 use Rattle.select.specs.Picked.{Hits, PickedFrom, Picked}
-use Rattle.select.specs.Marks.{IsDeepStep, Mark, SameMarks}
+use Rattle.select.specs.Marks.{Mark, SameMarks}
 use Rattle.select.specs.Marks as M
 use Rattle.select.specs.Visits.{Way}
-use Rattle.select.specs.Ways.{picksBack, picks, isDeep, mark, sameMarks}
+use Rattle.select.specs.Ways.{picksBack, picks, isDeep, mark, sameMarks, frameIf, frames}
 use Rattle.select.specs.Reach.{Reach, start, down, below-is}
 use Rattle.select.specs.Order.{way-unique}
 use Rattle.select.specs.Truth.{and-is, or-is, beq-is, same-truth, hits-is}
@@ -36,10 +37,10 @@ module _ (q : List Step) (i : ℕ) where
       let both = and-is (ltb i (length q)) (picks (take i q) []) in
       (λ e. (ltb-true i (length q) (both .0 e .0), both .0 e .1), λ h. both .1 (lt-ltb i (length q) (h .0), h .1))
 
-  abbrev Kept : Way → Type 0
+  abbrev pub Kept : Way → Type 0
   Kept w = (isDeep (getElem? q i) ≡ true) × (mark q i w ≡ true)
 
-  mark-below : (l : Label) (w : Way) → (mark q i (l ∷ w) ≡ true) ↔ ((i < length q) × ((picks (take i q) (l ∷ w) ≡ true) ⊎ Kept w))
+  pub mark-below : (l : Label) (w : Way) → (mark q i (l ∷ w) ≡ true) ↔ ((i < length q) × ((picks (take i q) (l ∷ w) ≡ true) ⊎ Kept w))
   unfolding mark
   mark-below l w = (
     λ e.
@@ -110,28 +111,45 @@ first-marks q (suc n) w w′ = go (first-marks q n w w′)
       λ h. last .1 (beq-is (mark q n w) (mark q n w′) .1 (h n (omega arith)), rest .1 (λ i k. h i (omega arith))),
     )
 
--- the test of all marks: two nodes have the same
-pub same-marks-is : (r : Node) (q : List Step) {w w′ : Way} {p n : Node} → Reach r w p → Reach r w′ n → SameMarks r q p n ↔ (sameMarks q (length q) w w′ ≡ true)
-unfolding SameMarks
-same-marks-is r q {w} {w′} {p} {n} x y = (
-  λ h.
-      first-marks q (length q) w w′ .1
-      (λ i k.
-      same-truth (mark q i w) (mark q i w′) (
-        λ e. mark-is q i r y .0 (h i .0 (mark-is q i r x .1 e)),
-        λ e. mark-is q i r x .0 (h i .1 (mark-is q i r y .1 e)),
-      )),
-  λ e i. (
-    λ m. mark-is q i r y .1 (sym (same e i (ltb i (length q)) refl) ∙ mark-is q i r x .0 m),
-    λ m. mark-is q i r x .1 (same e i (ltb i (length q)) refl ∙ mark-is q i r y .0 m),
-  ),
-)
+-- the test of all marks
+pub all-marks : (q : List Step) (w w′ : Way) → (sameMarks q (length q) w w′ ≡ true) ↔ ((i : ℕ) → mark q i w ≡ mark q i w′)
+all-marks q w w′ = (λ e i. same e i (ltb i (length q)) refl, λ h. first-marks q (length q) w w′ .1 (λ i k. h i))
   where
     same : sameMarks q (length q) w w′ ≡ true → (i : ℕ) (b : Bool) → ltb i (length q) ≡ b → mark q i w ≡ mark q i w′
     same e i true t = first-marks q (length q) w w′ .0 e i (ltb-true i (length q) t)
     same e i false t =
         let h : length q ≤ i = ltb-false i (length q) t in
         mark-over q i w h ∙ sym (mark-over q i w′ h)
+
+-- two nodes have the same marks exactly if the test holds
+pub same-marks-is : (r : Node) (q : List Step) {w w′ : Way} {p n : Node} → Reach r w p → Reach r w′ n → SameMarks r q p n ↔ (sameMarks q (length q) w w′ ≡ true)
+unfolding SameMarks
+same-marks-is r q {w} {w′} {p} {n} x y = (
+  λ h.
+      all-marks q w w′ .1
+      (λ i.
+      same-truth (mark q i w) (mark q i w′) (
+        λ e. mark-is q i r y .0 (h i .0 (mark-is q i r x .1 e)),
+        λ e. mark-is q i r x .0 (h i .1 (mark-is q i r y .1 e)),
+      )),
+  λ e i.
+      let same = all-marks q w w′ .0 e i in
+      (λ m. mark-is q i r y .1 (sym same ∙ mark-is q i r x .0 m), λ m. mark-is q i r x .1 (same ∙ mark-is q i r y .0 m)),
+)
+
+-- a container costs no frame where all marks are those of the container around it, and one where they are not
+module _ (q : List Step) (l : Label) (w : Way) where
+  pub frames-same : ((i : ℕ) → mark q i w ≡ mark q i (l ∷ w)) → frames q (l ∷ w) ≡ frames q w
+  unfolding frames frameIf
+  frames-same h = ap (λ (b : Bool). frameIf b (frames q w)) (all-marks q w (l ∷ w) .1 h)
+
+  pub frames-differ : (((i : ℕ) → mark q i w ≡ mark q i (l ∷ w)) → ⊥) → frames q (l ∷ w) ≡ frames q w + 1
+  unfolding frames frameIf
+  frames-differ h = go (sameMarks q (length q) w (l ∷ w)) refl
+    where
+      go : (b : Bool) → sameMarks q (length q) w (l ∷ w) ≡ b → frameIf b (frames q w) ≡ frames q w + 1
+      go true e = absurd (h (all-marks q w (l ∷ w) .0 e))
+      go false e = refl
 
 -- the root is picked out when there are no steps
 pub root-picked : (t : Tree) (q : List Step) → Picked t q (root t) ↔ (q ≡ [])

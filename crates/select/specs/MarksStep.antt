@@ -1,19 +1,21 @@
--- How marks pass from a node to its children: the law that a walk goes by.
+-- How marks pass from a node to its children: the laws that a walk goes by.
+-- The first i + 1 steps pick out what step i + 1 takes from a node that the first i pick out, or from one below it, which is mark i. Assumes nothing.
 use mathlib.Core.Path.{_≡_, refl, sym, ap, ap₂, _∙_}
-use mathlib.Core.Logic.{_↔_, _⊎_, inl, inr}
-use mathlib.Core.List.{List, [], _∷_, _++_, reverse, reverse-append, reverse-reverse}
+use mathlib.Core.Logic.{_⊎_, inl, inr}
+use mathlib.Core.List.{List, [], _∷_, _++_, reverse, reverse-append, reverse-reverse, cons≢nil}
 use mathlib.Core.Bool.{Bool, true, false, _&&_, _||_, false≢true, or-false, and-true, and-false}
 use mathlib.Core.Option.{Option, some, none}
 use Prim.Native.Nat.{ℕ, zero, suc, _≤_, _<_}
 use native.Mathlib.Omega.{arith}
-use borrow.Author.Tests.{ltb-true, lt-ltb, le-ltb}
-use lib.Dec.{ltb}
+use borrow.Author.Tests.{ltb-true, ltb-false, lt-ltb, le-ltb}
+use lib.Dec.{ltb, eqb, eqb·suc-zero}
 use lib.ListN.{length, take, getElem?}
 use lib.Seq.{take-length}
 use Rattle.query.specs.Steps.{Step}
 use Rattle.select.specs.Nodes.{Label}
 use Rattle.select.specs.Visits.{Way}
 use Rattle.select.specs.Ways.{hits, reached, picksBack, picks, isDeep, mark}
+use Rattle.select.specs.Truth.{and-is, or-is}
 
 -- a step, if there is one, hits a label
 unfoldable pub stepHits : Option Step → Label → Bool
@@ -128,7 +130,7 @@ module _ (q : List Step) where
       go none e = absurd (omega (arith, step-none q k e))
       go (some s) e = ap (λ (z : List Step). picks z (l ∷ w)) (sym (ap (λ (n : ℕ). take n q) (sym h) ∙ take-length q)) ∙ picks-mark q k s e l w
 
-  -- the root is picked out if there are no steps
+  -- the root is picked out only if there are no steps
   pub picks-root : picks q [] ≡ true → q ≡ []
   unfolding picks picksBack
   picks-root e = sym (reverse-reverse q) ∙ ap reverse (go (reverse q) e)
@@ -136,3 +138,45 @@ module _ (q : List Step) where
       go : (b : List Step) → picksBack b [] ≡ true → b ≡ []
       go [] e = refl
       go (s ∷ b) e = absurd (false≢true e)
+
+-- so the root's pick is a test of the number of steps
+pub picks-top : (q : List Step) → picks q [] ≡ eqb (length q) 0
+unfolding picks picksBack
+picks-top [] = refl
+picks-top (s ∷ q) = go (picks (s ∷ q) []) refl ∙ sym (eqb·suc-zero (length q))
+  where
+    go : (b : Bool) → picks (s ∷ q) [] ≡ b → picks (s ∷ q) [] ≡ false
+    go true e = absurd (cons≢nil (picks-root (s ∷ q) e))
+    go false e = e
+
+-- without steps no child is picked out
+pub picks-none : (l : Label) (w : Way) → picks [] (l ∷ w) ≡ false
+unfolding picks picksBack
+picks-none l w = refl
+
+-- a mark is less than the number of steps
+pub mark-less : (q : List Step) (i : ℕ) (w : Way) → mark q i w ≡ true → i < length q
+mark-less q i w e = go (ltb i (length q)) refl
+  where
+    go : (b : Bool) → ltb i (length q) ≡ b → i < length q
+    go true t = ltb-true i (length q) t
+    go false t = absurd (false≢true (sym (mark-over q i w (ltb-false i (length q) t)) ∙ e))
+
+-- a child's mark is its parent's, by a deep step, or one more than a mark of its parent
+abbrev pub Origin : List Step → ℕ → Way → Type 0
+Origin q i w = ((isDeep (getElem? q i) ≡ true) × (mark q i w ≡ true)) ⊎ ((j : ℕ) × (i ≡ suc j) × (mark q j w ≡ true))
+
+pub mark-origin : (q : List Step) (i : ℕ) (l : Label) (w : Way) → mark q i (l ∷ w) ≡ true → Origin q i w
+mark-origin q zero l w e = inl (and-is (isDeep (getElem? q 0)) (mark q 0 w) .0 (sym (mark-zero q l w) ∙ e))
+mark-origin q (suc i) l w e = go (or-is (stepHits (getElem? q i) l && mark q i w) (isDeep (getElem? q (suc i)) && mark q (suc i) w) .0 alternatives)
+  where
+    alternatives : ((stepHits (getElem? q i) l && mark q i w) || (isDeep (getElem? q (suc i)) && mark q (suc i) w)) ≡ true
+    alternatives =
+        and-is
+        (ltb (suc i) (length q))
+        ((stepHits (getElem? q i) l && mark q i w) || (isDeep (getElem? q (suc i)) && mark q (suc i) w))
+        .0 (sym (mark-suc q i l w) ∙ e) .1
+
+    go : ((stepHits (getElem? q i) l && mark q i w) ≡ true) ⊎ ((isDeep (getElem? q (suc i)) && mark q (suc i) w) ≡ true) → Origin q (suc i) w
+    go (inl h) = inr (i, refl, and-is (stepHits (getElem? q i) l) (mark q i w) .0 h .1)
+    go (inr h) = inl (and-is (isDeep (getElem? q (suc i))) (mark q (suc i) w) .0 h)

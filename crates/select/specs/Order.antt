@@ -1,20 +1,21 @@
 -- Where nodes stand: those that a walk visits begin at strictly rising places, so that no two begin at the same one.
+-- The children of a node stand apart, one after the other, behind its first byte and before its end. Assumes nothing.
 use mathlib.Core.Path.{_≡_, refl, sym, ap, subst, _∙_}
 use mathlib.Core.Logic.{_⊎_, inl, inr}
 use mathlib.Core.List.{List, [], _∷_, _++_, map, flatMap, List·Memᴰ, List·Memᴰ·head, List·Memᴰ·tail, List·Memᴰ·not-nil, List·Memᴰ·cases-cons}
-use mathlib.Core.Option.{Option, some, none}
+use mathlib.Core.Option.{some}
 use Prim.Native.Nat.{ℕ, zero, suc, _+_, _≤_, _<_}
 use native.Mathlib.Numerals.{add-one}
 use native.Mathlib.Omega.{arith}
 use lib.ListN.{length, getElem?}
-use Rattle.json.specs.Grammar.{Kind, Value, literal, number, string, container, Items, empty, items, More, end, more, closing, Key, putKey, putValue, putItems, putMore, Tree}
+use Rattle.json.specs.Grammar.{Kind, Value, literal, number, string, container, Items, empty, items, More, end, more, putValue, putItems, putMore, Tree}
 use Rattle.json.specs.Append.{length-blanks, length-key, length-value, value-positive}
-use Rattle.select.specs.Nodes.{Label, Node, Child, size, keySize, endOf, root, children, valueChildren, itemsChildren, moreChildren, IsChild, Below}
+use Rattle.select.specs.Nodes.{Label, Node, Child, size, keySize, endOf, root, children, valueChildren, itemsChildren, moreChildren, IsChild, Below, IsNode}
 use Rattle.select.specs.Nodes as N
 use Rattle.select.specs.Visits.{Visit, Way, step, nodeVisits, nodes}
 use Rattle.select.specs.VisitsMap.{map-append}
 use Rattle.select.specs.Children.{childVisits, visits-children, node-induction}
-use Rattle.select.specs.Reach.{Reach, visited-is}
+use Rattle.select.specs.Reach.{Reach, visited-is, below-is}
 
 -- the numbers strictly rise, from a on, and stay below e
 abbrev pub Rises : ℕ → List ℕ → ℕ → Type 0
@@ -174,6 +175,11 @@ way-unique {r} {w} {w′} {n} {n′} p p′ h =
     (visited-is r w′ n′ .1 p′)
     h in
     (ap (λ v. v .state) e, ap (λ v. v .node) e)
+
+-- so a place is the first byte of one node at most
+pub node-unique : (t : Tree) (n n′ : Node) → IsNode t n → IsNode t n′ → n .first ≡ n′ .first → n ≡ n′
+unfolding IsNode
+node-unique t n n′ h h′ e = way-unique (below-is (root t) n .0 h .1) (below-is (root t) n′ .0 h′ .1) e .1
 
 -- a node has at least one byte
 pub first-before-end : (n : Node) → n .first < endOf n

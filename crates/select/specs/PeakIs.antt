@@ -1,6 +1,7 @@
 -- The most frames among the visits is the peak: the greatest number of frames on one path down from the root.
+-- A path down is the way to its last node, and the test of marks on ways counts its frames. Assumes nothing.
 use mathlib.Core.Path.{_≡_, refl, sym, ap, subst, _∙_}
-use mathlib.Core.Logic.{_↔_, _⊎_, inl, inr}
+use mathlib.Core.Logic.{_⊎_, inl, inr}
 use mathlib.Core.List.{List, [], _∷_, List·Memᴰ, List·Memᴰ·head, List·Memᴰ·tail, List·Memᴰ·not-nil, List·Memᴰ·cases-cons}
 use mathlib.Core.Bool.{Bool, true, false, false≢true}
 use Prim.Native.Nat.{ℕ, suc, _+_, _≤_, _<_, max}
@@ -12,7 +13,7 @@ use lib.ListN.{length}
 use Rattle.json.specs.Grammar.{Value, literal, number, string, container, Tree}
 use Rattle.query.specs.Steps.{Step}
 use Rattle.select.specs.Nodes.{Label, Node, Child, valueChildren, children, IsChild, IsContainer, holds, root}
-use Rattle.select.specs.Marks.{SameMarks, Frames, Peak}
+use Rattle.select.specs.Marks.{Frames, Peak}
 use Rattle.select.specs.Marks as M
 use Rattle.select.specs.Visits.{Visit, Way, nodes}
 use Rattle.select.specs.Ways.{sameMarks, frameIf, frames, containerFrames, mostFrames, peak}
@@ -94,6 +95,19 @@ module _ (q : List Step) where
       go : (v ≡ u) ⊎ List·Memᴰ v vs → (List·Memᴰ v vs → own v ≤ mostFrames q vs) → own v ≤ max (own u) (mostFrames q vs)
       go (inl e) rest = omega (arith, ap own e)
       go (inr h) rest = omega (arith, rest h)
+
+  -- no more than what bounds the frames of each
+  pub most-bound : (b : ℕ) (vs : List (Visit Way)) → ((v : Visit Way) → List·Memᴰ v vs → frames q (v .state) ≤ b) → mostFrames q vs ≤ b
+  unfolding mostFrames containerFrames
+  most-bound b [] h = omega arith
+  most-bound b (v ∷ vs) h =
+      omega (arith, less (v .node .value), h v (List·Memᴰ·head refl), most-bound b vs (λ u m. h u (List·Memᴰ·tail m)))
+    where
+      less : (x : Value) → containerFrames x (frames q (v .state)) ≤ frames q (v .state)
+      less (literal l) = omega arith
+      less (number g n f e) = omega arith
+      less (string cs) = omega arith
+      less (container k is) = omega arith
 
   -- the most is none, or that of a container
   abbrev Attained : List (Visit Way) → ℕ → Type 0

@@ -1,16 +1,17 @@
 -- The test on ways finds just what a query picks out.
+-- By induction on the steps: a step takes from a node, or from one below it, whose way is a part of the way. Assumes nothing.
 use mathlib.Core.Path.{_≡_, refl, sym, subst, _∙_}
 use mathlib.Core.Logic.{_↔_, _⊎_, inl, inr}
 use mathlib.Core.List.{List, [], _∷_, reverse}
-use mathlib.Core.Bool.{Bool, true, false, _&&_, _||_, false≢true}
+use mathlib.Core.Bool.{Bool, true, false, _&&_, false≢true}
 use Rattle.json.specs.Grammar.{Tree}
 use Rattle.query.specs.Steps.{Selector, Step}
-use Rattle.select.specs.Nodes.{Label, Node, IsChild, Below, root}
+use Rattle.select.specs.Nodes.{Node, Below, root}
 use Rattle.select.specs.Nodes as N
-use Rattle.select.specs.Picked.{Hits, TakesChild, TakesBelow, TakesAs, PickedBack, PickedFrom, Picked}
+use Rattle.select.specs.Picked.{TakesAs, PickedBack, PickedFrom, Picked}
 use Rattle.select.specs.Visits.{Way}
 use Rattle.select.specs.Ways.{hits, reached, picksBack, picks}
-use Rattle.select.specs.Reach.{Reach, ReachFrom, start, down}
+use Rattle.select.specs.Reach.{Reach, start, down}
 use Rattle.select.specs.Truth.{and-is, or-is, hits-is}
 
 -- the test of one step more

@@ -1,9 +1,10 @@
 -- Which nodes are reached, and by which ways: the nodes that a walk visits.
-use mathlib.Core.Path.{_≡_, refl, sym, ap, subst, subst₂, _∙_}
+-- A visit is of the node itself or below a child; and with a node its children are visited. Assumes nothing.
+use mathlib.Core.Path.{_≡_, refl, sym, ap, subst}
 use mathlib.Core.Logic.{_↔_, _⊎_, inl, inr}
-use mathlib.Core.List.{List, [], _∷_, _++_, map, flatMap, List·Memᴰ, List·Memᴰ·head, List·Memᴰ·tail, List·Memᴰ·not-nil, List·Memᴰ·cases-cons, List·Memᴰ·append-cases, Memᴰ·cast, Memᴰ·append-left, Memᴰ·append-right, Memᴰ·map, Memᴰ·of-map}
+use mathlib.Core.List.{List, [], _∷_, flatMap, List·Memᴰ, List·Memᴰ·head, List·Memᴰ·tail, List·Memᴰ·not-nil, List·Memᴰ·cases-cons, List·Memᴰ·append-cases, Memᴰ·cast, Memᴰ·append-left, Memᴰ·append-right, Memᴰ·map, Memᴰ·of-map}
 use Rattle.json.specs.Grammar.{Tree}
-use Rattle.select.specs.Nodes.{Label, Node, Child, children, IsChild, Below, IsNode, root}
+use Rattle.select.specs.Nodes.{Label, Node, children, IsChild, Below, root}
 use Rattle.select.specs.Nodes as N
 use Rattle.select.specs.Visits.{Visit, Way, step, nodeVisits, nodes}
 use Rattle.select.specs.VisitsMap.{over, reach, nodeVisits-are}
@@ -66,10 +67,10 @@ module _ (b : Way) where
       subst (λ (z : List (Visit Way)). List·Memᴰ x z) (sym (visits-children step b n)) (List·Memᴰ·tail (mem-flatMap (childVisits step b) h m))
 
 -- a visited node is reached by its way
-abbrev Reached : Node → Type 0
+abbrev pub Reached : Node → Type 0
 Reached n = (b : Way) (x : Visit Way) → List·Memᴰ x (nodeVisits step n b) → ReachFrom n b (x .state) (x .node)
 
-visit-reach : (n : Node) → Reached n
+pub visit-reach : (n : Node) → Reached n
 unfolding IsChild
 visit-reach = node-induction Reached up
   where

@@ -1,10 +1,11 @@
 -- The pairs listed are those of the nodes picked out, each once, by rising first bytes.
-use mathlib.Core.Path.{_≡_, refl, sym, ap, subst, _∙_}
+-- They are chosen from the visits, which are the nodes, in their order. Assumes nothing.
+use mathlib.Core.Path.{_≡_, refl, sym, ap, _∙_}
 use mathlib.Core.Logic.{_↔_, _⊎_, inl, inr}
-use mathlib.Core.List.{List, [], _∷_, map, List·Memᴰ, List·Memᴰ·head, List·Memᴰ·tail, List·Memᴰ·not-nil, List·Memᴰ·cases-cons, Memᴰ·cast}
+use mathlib.Core.List.{List, [], _∷_, map, List·Memᴰ, List·Memᴰ·head, List·Memᴰ·tail, List·Memᴰ·not-nil, List·Memᴰ·cases-cons}
 use mathlib.Core.Bool.{Bool, true, false, false≢true}
-use mathlib.Core.Option.{Option, some}
-use Prim.Native.Nat.{ℕ, suc, _≤_, _<_}
+use mathlib.Core.Option.{some}
+use Prim.Native.Nat.{ℕ, suc, _<_}
 use native.Mathlib.Omega.{arith}
 use lib.ListN.{getElem?}
 use Rattle.json.specs.Grammar.{Tree}
@@ -13,7 +14,7 @@ use Rattle.select.specs.Nodes.{Node, endOf, root}
 use Rattle.select.specs.Picked.{Picked}
 use Rattle.select.specs.Visits.{Visit, Way, nodes}
 use Rattle.select.specs.Ways.{picks, Span, spanOf, spanIf, pickedSpans, spans}
-use Rattle.select.specs.Reach.{Reach, nodes-are}
+use Rattle.select.specs.Reach.{nodes-are}
 use Rattle.select.specs.Order.{Rises, rises-lower, rises-earlier, firsts, nodes-rise, way-unique}
 use Rattle.select.specs.PickedIs.{picked-is}
 

@@ -1,5 +1,5 @@
--- What a test that holds says: conjunctions, alternatives, equal names, hits.
-use mathlib.Core.Path.{_≡_, refl, sym, ap, ap₂}
+-- What a test that holds says: conjunctions, alternatives, equal names, hits. Assumes nothing.
+use mathlib.Core.Path.{_≡_, refl, sym, ap₂}
 use mathlib.Core.Logic.{_↔_, _⊎_, inl, inr}
 use mathlib.Core.List.{List, [], _∷_, head-eq-of-cons-eq, tail-eq-of-cons-eq, nil≢cons, cons≢nil}
 use mathlib.Core.Bool.{Bool, true, false, _&&_, _||_, Bool·beq, false≢true, true≢false}

@@ -1,4 +1,5 @@
 -- Walks with different states visit the same nodes: a map of states that goes with the steps goes with the visits.
+-- By induction on the value, item by item. Assumes nothing.
 use mathlib.Core.Path.{_≡_, refl, sym, ap, ap₂, _∙_}
 use mathlib.Core.List.{List, [], _∷_, _++_, map}
 use Prim.Native.Nat.{ℕ, _+_}
