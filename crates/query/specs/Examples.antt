@@ -1,21 +1,19 @@
 -- Queries on both sides of each rule, with their verdicts and steps, by computing (document 01, "The part of RFC 9535", "Grounds for refusing").
 use mathlib.Core.Path.{_≡_, refl}
-use mathlib.Core.List.{List, [], _∷_}
+use mathlib.Core.List.{List, [], _∷_, map}
 use mathlib.Core.Bool.{true, false}
 use Prim.Native.Nat.{ℕ, zero, suc}
 use Rattle.encoding.specs.Verdict.{Verdict, taken, refused}
 use Rattle.query.specs.Steps.{Selector, name, every, Step}
 use Rattle.query.specs.Verdict.{queryVerdict, stepsIn}
 
-data Row : Type 0 where
-  row : List ℕ → Verdict → List Step → Row
+record Row : Type 0 where
+  pub query : List ℕ
+  pub verdict : Verdict
+  pub steps : List Step
 
-abbrev Right : Row → Type 0
-Right (row q v x) = (queryVerdict q ≡ v) × (stepsIn q ≡ x)
-
-abbrev All : List Row → Type 0
-All [] = Unit {0}
-All (r ∷ rs) = Right r × All rs
+abbrev row : List ℕ → Verdict → List Step → Row
+row q v x = record { query = q; verdict = v; steps = x }
 
 abbrev child : Selector → Step
 child x = record { deep = false; selector = x }
@@ -70,9 +68,13 @@ table =
     row (0x24 ∷ 0x2E ∷ 0xC3 ∷ []) (refused 2 3) [] ∷  -- a code point cut short
     []
 
-rows-right : All table
-unfolding queryVerdict stepsIn
-rows-right = ((refl, refl), ((refl, refl), ((refl, refl), ((refl, refl), ((refl, refl), ((refl, refl), ((refl, refl), ((refl, refl), ((refl, refl), ((refl, refl), ((refl, refl), ((refl, refl), ((refl, refl), ((refl, refl), ((refl, refl), ((refl, refl), ((refl, refl), ((refl, refl), ((refl, refl), ((refl, refl), ((refl, refl), ((refl, refl), ((refl, refl), ((refl, refl), ((refl, refl), ((refl, refl), ((refl, refl), ((refl, refl), ((refl, refl), ((refl, refl), ((refl, refl), ((refl, refl), ((refl, refl), ((refl, refl), ((refl, refl), ((refl, refl), ((refl, refl), ((refl, refl), ((refl, refl), ((refl, refl), ((refl, refl), ((refl, refl), ((refl, refl), tt)))))))))))))))))))))))))))))))))))))))))))
+verdicts-right : map (λ (r : Row). queryVerdict (r .query)) table ≡ map (λ (r : Row). r .verdict) table
+unfolding queryVerdict
+verdicts-right = refl
+
+steps-right : map (λ (r : Row). stepsIn (r .query)) table ≡ map (λ (r : Row). r .steps) table
+unfolding stepsIn
+steps-right = refl
 
 -- the limits: n steps `.*` and then s; n letters
 stars : ℕ → List ℕ → List ℕ
