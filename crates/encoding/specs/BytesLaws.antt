@@ -4,7 +4,7 @@ use mathlib.Core.Bool.{Bool, true, false, _&&_, and-false}
 use Prim.Native.Nat.{ℕ, _≤_, _<_}
 use lib.Dec.{T, leb, leb→le}
 use borrow.Author.Tests.{le-leb, lt-leb}
-use Rattle.encoding.specs.Below.{both-left, both-right}
+use Rattle.bits.specs.Truth.{and-left, and-right}
 use Rattle.encoding.specs.Bytes.{In}
 
 -- the test of a range, from what is known of the byte
@@ -24,7 +24,7 @@ make {lo} {hi} b l h = record { byte = b; ok = subst T (sym (inside lo hi b l h)
 
 module _ {lo hi : ℕ} (x : In lo hi) where
   pub from-low : lo ≤ x .byte
-  from-low = leb→le lo (x .byte) (both-left (leb lo (x .byte)) (leb (x .byte) hi) (x .ok))
+  from-low = leb→le lo (x .byte) (and-left (leb lo (x .byte)) (leb (x .byte) hi) (x .ok))
 
   pub to-high : x .byte ≤ hi
-  to-high = leb→le (x .byte) hi (both-right (leb lo (x .byte)) (leb (x .byte) hi) (x .ok))
+  to-high = leb→le (x .byte) hi (and-right (leb lo (x .byte)) (leb (x .byte) hi) (x .ok))

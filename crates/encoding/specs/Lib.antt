@@ -1,4 +1,3 @@
-pub mod Below
 pub mod Bytes
 pub mod BytesLaws
 pub mod Class

@@ -7,7 +7,7 @@ use native.Mathlib.Omega.{arith}
 use lib.Dec.{leb, leb→le}
 use lib.ListN.{length, getD, drop, List·getD-append}
 use lib.Seq.{getD-append-add}
-use Rattle.encoding.specs.Below.{allBelow, at-each}
+use Rattle.bits.specs.Truth.{allBelow, all-at}
 use Rattle.encoding.specs.BytesLaws.{beneath, beyond}
 use Rattle.encoding.specs.Utf8.{Row, rows}
 use Rattle.encoding.specs.CodePoint.{wrong, later, due, readBy, reading}
@@ -73,7 +73,7 @@ has-byte n = leb 1 (rowAt rows n .bytes)
 
 pub bytes-some : (n : ℕ) → n < 9 → 1 ≤ rowAt rows n .bytes
 unfolding has-byte rows allBelow
-bytes-some n h = leb→le 1 (rowAt rows n .bytes) (at-each 9 has-byte tt n h)
+bytes-some n h = leb→le 1 (rowAt rows n .bytes) (all-at 9 has-byte tt n h)
 
 -- the search for the row of a first byte, from row n on
 module _ (b : ℕ) where
