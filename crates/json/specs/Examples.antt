@@ -2,20 +2,14 @@
 use mathlib.Core.Path.{_≡_, refl}
 use mathlib.Core.List.{List, [], _∷_, _++_, map}
 use Prim.Native.Nat.{ℕ, zero, suc}
-use Prim.Native.Char.{code}
-use Prim.Native.String.{String, [] as []ₛ, _∷_ as _∷ₛ_}
 use native.Mathlib.Omega.{arith}
+use Rattle.encoding.specs.Ascii.{ascii}
 use Rattle.encoding.specs.Bytes.{space}
 use Rattle.encoding.specs.Utf8.{Wide, c2-df}
 use Rattle.encoding.specs.Verdict.{Verdict, taken, refused}
 use Rattle.json.specs.Grammar as G
 use Rattle.json.specs.Grammar.{Value, Name, text, nesting, Nested, array, object}
 use Rattle.json.specs.Verdict.{recordVerdict}
-
--- the bytes of characters below 80 (hexadecimal)
-ascii : String → List ℕ
-ascii []ₛ = []
-ascii (c ∷ₛ s) = code c ∷ ascii s
 
 -- bytes between quotes
 quoted : List ℕ → List ℕ
@@ -38,7 +32,6 @@ judged (row s v) = recordVerdict s
 
 -- values and blanks
 values : List Example
-unfolding ascii
 values =
     row [] (refused 5 0) ∷
     row (ascii " ") (refused 5 1) ∷
@@ -53,7 +46,6 @@ values =
     row (0xEF ∷ 0xBB ∷ 0xBF ∷ ascii "0") (refused 5 0) ∷ []  -- a byte order mark
 
 numbers : List Example
-unfolding ascii
 numbers =
     row (ascii "0") taken ∷
     row (ascii "01") (refused 5 1) ∷
@@ -71,7 +63,7 @@ numbers =
     row (ascii "1e5.") (refused 5 3) ∷ []
 
 strings : List Example
-unfolding ascii quoted
+unfolding quoted
 strings =
     row (quoted []) taken ∷
     row (0x22 ∷ []) (refused 5 1) ∷
@@ -102,7 +94,6 @@ strings =
     row (quoted (0xF5 ∷ 0x80 ∷ 0x80 ∷ 0x80 ∷ [])) (refused 5 1) ∷ []
 
 containers : List Example
-unfolding ascii
 containers =
     row (ascii "[ ]") taken ∷
     row (ascii "[1,]") (refused 5 3) ∷
@@ -122,7 +113,7 @@ containers =
 
 -- nesting to level 512 and to level 513, in arrays and in arrays and objects by turns, with a dead byte after the bracket and before it
 nestings : List Example
-unfolding ascii times
+unfolding times
 nestings =
     row (times 512 (ascii "[") (times 512 (ascii "]") [])) taken ∷
     row (times 512 (ascii "[") (ascii "0" ++ times 512 (ascii "]") [])) taken ∷
@@ -147,7 +138,7 @@ examples-hold = refl
 
 -- `[1, "é"]`
 array-tree : Nested 1 (ascii "[1, " ++ quoted (0xC3 ∷ 0xA9 ∷ []) ++ ascii "]")
-unfolding text nesting ascii quoted
+unfolding text nesting quoted
 array-tree =
     record {
       tree =
@@ -168,7 +159,7 @@ array-tree =
 
 -- `{"M":-0.5,"M":{}} `
 object-tree : Nested 2 (ascii "{\"M\":-0.5,\"M\":{}} ")
-unfolding text nesting ascii
+unfolding text nesting
 object-tree =
     record {
       tree =
