@@ -7,7 +7,7 @@ use native.Mathlib.Omega.{arith}
 use lib.Dec.{T, eqb, leb, le→leb}
 use lib.ListN.{length}
 use borrow.Author.Tests.{not-true}
-use Rattle.encoding.specs.Below.{allBelow, at-each}
+use Rattle.bits.specs.Truth.{allBelow, all-at}
 use Rattle.encoding.specs.Bytes as B
 use Rattle.encoding.specs.Bytes.{In, putIn, Blank, Blanks, blankByte, putBlanks}
 use Rattle.json.specs.Read.{in-bounds}
@@ -29,7 +29,7 @@ passes lo hi p = allBelow (suc hi) (λ b. not (leb lo b) || p b)
 
 in-range : {lo hi : ℕ} (p : ℕ → Bool) → T (passes lo hi p) → (x : In lo hi) → p (x .byte) ≡ true
 unfolding passes
-in-range {lo} {hi} p t x = go (leb lo (x .byte)) (of-T (leb lo (x .byte)) (le→leb lo (x .byte) (in-bounds x .0))) (at-each (suc hi) (λ b. not (leb lo b) || p b) t (x .byte) (omega (arith, in-bounds x .1)))
+in-range {lo} {hi} p t x = go (leb lo (x .byte)) (of-T (leb lo (x .byte)) (le→leb lo (x .byte) (in-bounds x .0))) (all-at (suc hi) (λ b. not (leb lo b) || p b) t (x .byte) (omega (arith, in-bounds x .1)))
   where
     go : (b : Bool) → b ≡ true → T (not b || p (x .byte)) → p (x .byte) ≡ true
     go true e h = of-T (p (x .byte)) h
