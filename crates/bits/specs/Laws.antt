@@ -243,6 +243,67 @@ number-same (suc n) f g h =
 pub number-zero : (n : ℕ) (f : ℕ → Bool) → number n f ≡ 0 → (i : ℕ) → i < n → f i ≡ false
 number-zero n f e i h = sym (bit-number n i f h) ∙ ap (bit i) e ∙ bit-zero i
 
+-- ---- sums
+
+-- two of the three hold
+unfoldable pub majority : Bool → Bool → Bool → Bool
+majority a b c = (a && b) || ((a || b) && c)
+
+-- the carry into place i of the sum of f and g, where c is the one into place 0
+unfoldable pub carry : Bool → (ℕ → Bool) → (ℕ → Bool) → ℕ → Bool
+carry c f g zero = c
+carry c f g (suc i) = majority (f i) (g i) (carry c f g i)
+
+carry-further : (c : Bool) (f g : ℕ → Bool) (i : ℕ)
+    → carry (majority (f 0) (g 0) c) (λ j. f (suc j)) (λ j. g (suc j)) i ≡ carry c f g (suc i)
+unfolding carry
+carry-further c f g zero = refl
+carry-further c f g (suc i) = ap (majority (f (suc i)) (g (suc i))) (carry-further c f g i)
+
+pub carry-same : (c : Bool) (f g f′ g′ : ℕ → Bool) (i : ℕ) → ((j : ℕ) → j < i → f j ≡ f′ j) → ((j : ℕ) → j < i → g j ≡ g′ j)
+    → carry c f g i ≡ carry c f′ g′ i
+unfolding carry
+carry-same c f g f′ g′ zero h l = refl
+carry-same c f g f′ g′ (suc i) h l =
+    ap₂ (λ (x y : Bool). majority x y (carry c f g i)) (h i (omega arith)) (l i (omega arith))
+    ∙ ap (majority (f′ i) (g′ i)) (carry-same c f g f′ g′ i (λ j r. h j (omega arith)) (λ j r. l j (omega arith)))
+
+sum-digit : (a b c : Bool) → on ((digit a + digit b + digit c) % 2) ≡ xor (xor a b) c
+unfolding on digit xor
+sum-digit = truth 3 (λ a b c. on ((digit a + digit b + digit c) % 2)) (λ a b c. xor (xor a b) c) tt
+
+sum-carry : (a b c : Bool) → on ((digit a + digit b + digit c) / 2) ≡ majority a b c
+unfolding on digit majority
+sum-carry = truth 3 (λ a b c. on ((digit a + digit b + digit c) / 2)) majority tt
+
+add-low : (x y c : ℕ) → (x + y + c) % 2 ≡ (x % 2 + y % 2 + c) % 2
+add-low x y c = omega arith
+
+add-half : (x y c : ℕ) → (x + y + c) / 2 ≡ x / 2 + y / 2 + (x % 2 + y % 2 + c) / 2
+add-half x y c = omega arith
+
+lowest-digits : (x y c : ℕ) → x % 2 + y % 2 + c ≡ digit (on (x % 2)) + digit (on (y % 2)) + c
+lowest-digits x y c =
+    ap₂ (λ (u v : ℕ). u + v + c) (sym (digit-on (x % 2) (omega arith))) (sym (digit-on (y % 2) (omega arith)))
+
+lowest-carry : (x y : ℕ) (c : Bool) → (x % 2 + y % 2 + digit c) / 2 ≡ digit (majority (on (x % 2)) (on (y % 2)) c)
+lowest-carry x y c =
+    sym (digit-on ((x % 2 + y % 2 + digit c) / 2) (omega (arith, digit-lt c)))
+    ∙ ap (λ (u : ℕ). digit (on (u / 2))) (lowest-digits x y (digit c))
+    ∙ ap digit (sum-carry (on (x % 2)) (on (y % 2)) c)
+
+-- `+`, with a carry c into the lowest place
+pub bit-add : (i x y : ℕ) (c : Bool)
+    → bit i (x + y + digit c) ≡ xor (xor (bit i x) (bit i y)) (carry c (λ j. bit j x) (λ j. bit j y) i)
+unfolding bit carry
+bit-add zero x y c =
+    ap on (add-low x y (digit c) ∙ ap (λ (u : ℕ). u % 2) (lowest-digits x y (digit c)))
+    ∙ sum-digit (on (x % 2)) (on (y % 2)) c
+bit-add (suc i) x y c =
+    ap (bit i) (add-half x y (digit c) ∙ ap (λ (u : ℕ). x / 2 + y / 2 + u) (lowest-carry x y c))
+    ∙ bit-add i (x / 2) (y / 2) (majority (on (x % 2)) (on (y % 2)) c)
+    ∙ ap (xor (xor (bit i (x / 2)) (bit i (y / 2)))) (carry-further c (λ j. bit j x) (λ j. bit j y) i)
+
 -- ---- trailing zeros, and the lowest bit that is on
 
 trailing-on : (k n : ℕ) → trailingZeros k n < k → bit (trailingZeros k n) n ≡ true
