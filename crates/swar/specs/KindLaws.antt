@@ -1,6 +1,6 @@
 -- Which bytes are of which kind, both ways.
-use mathlib.Core.Path.{_≡_, refl, ap, sym, _∙_}
-use mathlib.Core.Bool.{Bool, true, false, _&&_, _||_, not}
+use mathlib.Core.Path.{_≡_, refl, sym, _∙_}
+use mathlib.Core.Bool.{Bool, true, false}
 use mathlib.Core.Logic.{_⊎_, inl, inr}
 use Prim.Native.Nat.{ℕ, _≤_, _<_}
 use native.Mathlib.Omega.{arith}
@@ -43,7 +43,9 @@ module _ {b : ℕ} where
 pub plain-or-not : (b : ℕ) → Plain b ⊎ NotPlain b
 plain-or-not b = from (leb 0x20 b) refl (leb b 0x7F) refl (eqb b 0x22) refl (eqb b 0x5C) refl
   where
-    ends : 0x20 ≤ b → b ≤ 0x7F → (b ≡ 0x22 → ⊥) → (b ≡ 0x5C → ⊥) → (x : Bool) → leb b 0x21 ≡ x → (y : Bool) → leb b 0x5B ≡ y → Plain b
+    ends :
+        0x20 ≤ b → b ≤ 0x7F → (b ≡ 0x22 → ⊥) → (b ≡ 0x5C → ⊥) → (x : Bool) → leb b 0x21 ≡ x → (y : Bool) → leb b 0x5B ≡ y →
+        Plain b
     ends l h q s true e y g = low l (leb-true b 0x21 e)
     ends l h q s false e true g = let u = leb-false b 0x21 e in mid (omega arith) (leb-true b 0x5B g)
     ends l h q s false e false g = let u = leb-false b 0x5B g in high (omega arith) h

@@ -1,12 +1,12 @@
 -- Eight bytes at a time: an operation on words that is done on each byte alone. One test of all 256 bytes shows that no sum of two bytes
 -- carries into the next, and the operation on the word is then the operation on each of its bytes.
-use mathlib.Core.Path.{_≡_, refl, ap, ap₂, sym, _∙_}
-use mathlib.Core.Bool.{Bool, true, false, _&&_}
+use mathlib.Core.Path.{_≡_, refl, ap₂, _∙_}
+use mathlib.Core.Bool.{Bool, _&&_}
 use Prim.Native.Nat.{ℕ, _+_, _*_, _%_, _^_, _<_}
 use native.Mathlib.Omega.{arith}
 use lib.Dec.{T, ltb, ltb→lt}
 use lib.Bits.{bitAnd, bitOr, bitXor}
-use Rattle.bits.specs.Truth.{allBelow, all-at, and-left, and-right}
+use Rattle.bits.specs.Truth.{and-left, and-right}
 use Rattle.bits.specs.Word.{word, word-add, word-and, word-or, word-xor}
 
 pub data Op : Type 0 where

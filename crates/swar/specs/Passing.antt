@@ -1,5 +1,5 @@
 -- Laws of runs: how a run goes on, and where it ends.
-use mathlib.Core.Path.{_≡_, refl, ap, sym, _∙_}
+use mathlib.Core.Path.{_≡_, ap, sym, _∙_}
 use mathlib.Core.List.{List}
 use mathlib.Core.Bool.{Bool, true, false}
 use mathlib.Core.Logic.{⊎-elim}
@@ -24,7 +24,9 @@ module _ {kind : ℕ → Bool} {s : List ℕ} where
       }
 
   -- n bytes more
-  pub passed-more : {from i : ℕ} (n : ℕ) → Passed kind s from i → i + n ≤ length s → ((j : ℕ) → j < n → kind (getD s (i + j) 0) ≡ true) → Passed kind s from (i + n)
+  pub passed-more :
+      {from i : ℕ} (n : ℕ) → Passed kind s from i → i + n ≤ length s → ((j : ℕ) → j < n → kind (getD s (i + j) 0) ≡ true) →
+      Passed kind s from (i + n)
   passed-more {from} {i} n p h each =
       passed-on p
       (record {
@@ -49,5 +51,7 @@ module _ {kind : ℕ → Bool} {s : List ℕ} where
   run-on p r = record { passed = passed-on p (r .passed); stop = r .stop }
 
 -- what is of one kind is of another
-pub passed-as : {kind other : ℕ → Bool} {s : List ℕ} {from to : ℕ} → ((b : ℕ) → kind b ≡ true → other b ≡ true) → Passed kind s from to → Passed other s from to
+pub passed-as :
+    {kind other : ℕ → Bool} {s : List ℕ} {from to : ℕ} → ((b : ℕ) → kind b ≡ true → other b ≡ true) →
+    Passed kind s from to → Passed other s from to
 passed-as {s} f p = record { forward = p .forward; within = p .within; each = λ j l h. f (getD s j 0) (p .each j l h) }

@@ -14,7 +14,9 @@ returns-2 : tie.Need-returns-2
 returns-2 c = sym (string-fails (c .before .before .args .strict) (inr (c .if2 .taken)))
 
 returns-3 : tie.Need-returns-3
-returns-3 c = rw (not-true (c .before .before .before .args .strict) (c .if3 .taken)) (sym (body-holds (c .before .before .if1 .left) (c .before .if2 .left)))
+returns-3 c =
+    rw (not-true (c .before .before .before .args .strict) (c .if3 .taken))
+    (sym (body-holds (c .before .before .if1 .left) (c .before .if2 .left)))
 
 returns-4 : tie.Need-returns-4
 returns-4 c =

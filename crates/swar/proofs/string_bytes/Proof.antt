@@ -56,7 +56,8 @@ loop-again : tie.Need-loop-again Inv-loop μ-loop
 loop-again c =
     let at = c .before .before .before .before in
     passed-more 8 (at .loop .inv) (omega arith)
-    (stops-none (λ j. omega (arith, at .before .shared-slice-known .given j)) (c .before .before .load8 .ensures) (c .before .stops .ensures) (c .if1 .left))
+    (stops-none (λ j. omega (arith, at .before .shared-slice-known .given j)) (c .before .before .load8 .ensures)
+    (c .before .stops .ensures) (c .if1 .left))
 
 string-tail-requires : tie.Need-string-tail-requires Inv-loop μ-loop
 string-tail-requires c κs = search needs
