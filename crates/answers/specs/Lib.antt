@@ -1,3 +1,5 @@
 pub mod Lister
 pub mod Finder
+pub mod Outcome
 pub mod Table
+pub mod Enumerates
