@@ -3,3 +3,6 @@ pub mod Finder
 pub mod Outcome
 pub mod Table
 pub mod Enumerates
+pub mod Within
+pub mod ListerSays
+pub mod ListerIs
