@@ -6,3 +6,5 @@ pub mod Enumerates
 pub mod Within
 pub mod ListerSays
 pub mod ListerIs
+pub mod Demand3
+pub mod Demand3Met

@@ -1,5 +1,5 @@
 -- A lister's answer as one value: its four numbers and its list afterwards.
-use mathlib.Core.Path.{_≡_, sym, _∙_}
+use mathlib.Core.Path.{_≡_}
 use mathlib.Core.List.{List}
 use Prim.Native.Nat.{ℕ}
 use Rattle.answers.specs.Lister.{ground, place, pairs, peakAnswer, listAfter, Lists}
@@ -30,8 +30,3 @@ pub lists-outcome : {query text list after : List ℕ} {g p n k : ℕ} → Lists
 unfolding outcome
 lists-outcome x =
     λ i. record { ground = x .ground-is i; place = x .place-is i; pairs = x .pairs-are i; peak = x .peak-is i; after = x .list-is i }
-
--- lent the same arguments, any two calls that meet it give the same four numbers and leave equal lists, refusals included
-pub same-answers : {query text list after after′ : List ℕ} {g p n k g′ p′ n′ k′ : ℕ} → Lists query text list after g p n k →
-    Lists query text list after′ g′ p′ n′ k′ → answered g p n k after ≡ answered g′ p′ n′ k′ after′
-same-answers x y = lists-outcome x ∙ sym (lists-outcome y)
