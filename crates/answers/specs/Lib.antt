@@ -8,3 +8,6 @@ pub mod ListerSays
 pub mod ListerIs
 pub mod Demand3
 pub mod Demand3Met
+pub mod FinderSays
+pub mod FinderIs
+pub mod Examples

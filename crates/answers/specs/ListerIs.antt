@@ -48,7 +48,7 @@ unfolding outcome
 outcome-by q r l = refl
 
 -- a verdict that refuses comes first
-refuses-first : (v u : Verdict) → 0 < v .ground → orElse v u ≡ v
+pub refuses-first : (v u : Verdict) → 0 < v .ground → orElse v u ≡ v
 unfolding orElse
 refuses-first v u h = go (v .ground) (v .place) h
   where
@@ -65,7 +65,8 @@ refusal v ss k l h = go (v .ground) (v .place) h
     go zero p h = absurd (omega arith)
     go (suc g) p h = refl
 
-outcome-refused : (query text list : List ℕ) (v : Verdict) → inputVerdict query text ≡ v → 0 < v .ground → outcome query text list ≡ refused (v .ground) (v .place) 0 list
+outcome-refused : (query text list : List ℕ) (v : Verdict) → inputVerdict query text ≡ v → 0 < v .ground →
+    outcome query text list ≡ refused (v .ground) (v .place) 0 list
 outcome-refused query text list v e h =
     outcome-by query text list
     ∙ ap (λ (u : Verdict). outcomeBy u (spansIn query text) (peakIn query text) list) e
@@ -111,7 +112,9 @@ module _ {query text : List ℕ} {q : Query} {t : Tree} (hq : QueryIs query q) (
   unfolding spansIn spansOf peakIn peakOf
   outcome-of ns before over x e f =
       outcome-by query text list
-      ∙ rw (both-taken, record-tree ht, query-steps hq, ← enumerates-spans x) (ended-by (map spanOf before) (map spanOf over) (map spanOf ns) (peak t (stepsOf q)) list e f)
+      ∙ rw
+      (both-taken, record-tree ht, query-steps hq, ← enumerates-spans x)
+      (ended-by (map spanOf before) (map spanOf over) (map spanOf ns) (peak t (stepsOf q)) list e f)
 
   outcome-over : (before : List Node) (n : Node) (after : List Node) → Enumerates t (stepsOf q) (before ++ n ∷ after) → length before ≡ pairsOf list →
       outcome query text list ≡ refused 7 (n .first) (length before) (holding before list)
@@ -137,53 +140,61 @@ module _ (query text list : List ℕ) where
   pub lister-says-only : {o : Outcome} → ListerSays query text list o → o ≡ outcome query text list
   unfolding inputVerdict orElse
   lister-says-only (queryRefused v x h) =
-      let e : inputVerdict query text ≡ v = ap (λ (u : Verdict). orElse u (recordVerdict text)) (sym (query-says-only query v x)) ∙ refuses-first v (recordVerdict text) h in
+      let e : inputVerdict query text ≡ v =
+      ap (λ (u : Verdict). orElse u (recordVerdict text)) (sym (query-says-only query v x)) ∙ refuses-first v (recordVerdict text) h in
       sym (outcome-refused query text list v e h)
   lister-says-only (recordRefused x v y h) =
-      let e : inputVerdict query text ≡ v = ap (λ (u : Verdict). orElse u (recordVerdict text)) (sym (query-says-only query verdict.taken x)) ∙ sym (record-says-only text v y) in
+      let e : inputVerdict query text ≡ v =
+      ap (λ (u : Verdict). orElse u (recordVerdict text)) (sym (query-says-only query verdict.taken x)) ∙ sym (record-says-only text v y) in
       sym (outcome-refused query text list v e h)
   lister-says-only (leftOver q t hq ht before n after x h) = sym (outcome-over hq ht list before n after x h)
   lister-says-only (all q t hq ht ns x h k p) = sym (outcome-all hq ht list ns x h k p)
 
-  -- something is said of any arguments
-  abbrev Said : Type 0
-  Said = (o : Outcome) × ListerSays query text list o
+  -- what is computed is said of the arguments
+  abbrev Answered : Type 0
+  Answered = ListerSays query text list (outcome query text list)
 
-  said-nodes : (q : Query) (t : Tree) → QueryIs query q → RecordIs text t → (ns : List Node) → Enumerates t (stepsOf q) ns → Said
-  said-nodes q t hq ht ns x = go (leb (length ns) (pairsOf list)) refl
+  computed : {o : Outcome} → ListerSays query text list o → Answered
+  computed x = subst (ListerSays query text list) (lister-says-only x) x
+
+  nodes-answered : (q : Query) (t : Tree) → QueryIs query q → RecordIs text t → (ns : List Node) → Enumerates t (stepsOf q) ns → Answered
+  nodes-answered q t hq ht ns x = go (leb (length ns) (pairsOf list)) refl
     where
-      split : (over : List Node) → drop (pairsOf list) ns ≡ over → pairsOf list < length ns → Said
+      split : (over : List Node) → drop (pairsOf list) ns ≡ over → pairsOf list < length ns → Answered
       split [] e h = absurd (omega (arith, length-drop (pairsOf list) ns, ap length e))
       split (n ∷ after) e h =
           let before = take (pairsOf list) ns in
           let whole : ns ≡ before ++ n ∷ after = sym (take-append-drop (pairsOf list) ns) ∙ ap (λ (ms : List Node). before ++ ms) e in
-          (_, leftOver q t hq ht before n after (subst (Enumerates t (stepsOf q)) whole x) (length-take-le (pairsOf list) ns (omega arith)))
+          let y = subst (Enumerates t (stepsOf q)) whole x in
+          computed (leftOver q t hq ht before n after y (length-take-le (pairsOf list) ns (omega arith)))
 
-      go : (b : Bool) → leb (length ns) (pairsOf list) ≡ b → Said
-      go true e = (_, all q t hq ht ns x (leb-true (length ns) (pairsOf list) e) (peak t (stepsOf q)) (peak-is t (stepsOf q)))
+      go : (b : Bool) → leb (length ns) (pairsOf list) ≡ b → Answered
+      go true e = computed (all q t hq ht ns x (leb-true (length ns) (pairsOf list) e) (peak t (stepsOf q)) (peak-is t (stepsOf q)))
       go false e = split (drop (pairsOf list) ns) refl (leb-false (length ns) (pairsOf list) e)
 
-  says-taken : (q : Query) → QueryIs query q → QuerySays query verdict.taken
-  says-taken q h = Q.taken (h .bytes) q (h .written) (h .steps)
+  record-answered : (q : Query) → QueryIs query q → {v : Verdict} → RecordSays text v → Answered
+  record-answered q hq x = go x
+    where
+      says : QuerySays query verdict.taken
+      says = Q.taken (hq .bytes) q (hq .written) (hq .steps)
 
-  said-record : (q : Query) → QueryIs query q → {v : Verdict} → RecordSays text v → Said
-  said-record q hq (J.taken l j) =
-      let t = j .tree in
-      let (ns, x) = enumeration t (stepsOf q) in
-      said-nodes q t hq (record { written = j .written; bytes = l; levels = j .shallow }) ns x
-  said-record q hq (J.long l) = (_, recordRefused (says-taken q hq) _ (J.long l) (omega arith))
-  said-record q hq (J.wrong p l f d a) = (_, recordRefused (says-taken q hq) _ (J.wrong p l f d a) (omega arith))
-  said-record q hq (J.deep p l o) = (_, recordRefused (says-taken q hq) _ (J.deep p l o) (omega arith))
+      go : {v : Verdict} → RecordSays text v → Answered
+      go (J.taken l j) =
+          let ht : RecordIs text (j .tree) = record { written = j .written; bytes = l; levels = j .shallow } in
+          let (ns, y) = enumeration (j .tree) (stepsOf q) in
+          nodes-answered q (j .tree) hq ht ns y
+      go (J.long l) = computed (recordRefused says _ (J.long l) (omega arith))
+      go (J.wrong p l f d a) = computed (recordRefused says _ (J.wrong p l f d a) (omega arith))
+      go (J.deep p l o) = computed (recordRefused says _ (J.deep p l o) (omega arith))
 
-  said : {v : Verdict} → QuerySays query v → Said
-  said (Q.taken l q e h) = said-record q (record { written = e; bytes = l; steps = h }) (recordSays text)
-  said (Q.long l) = (_, queryRefused _ (Q.long l) (omega arith))
-  said (Q.wrong l f p d) = (_, queryRefused _ (Q.wrong l f p d) (omega arith))
-  said (Q.many l t x u e h) = (_, queryRefused _ (Q.many l t x u e h) (omega arith))
-
-  -- what a lister answers by computing is said of its arguments
   pub lister-says : ListerSays query text list (outcome query text list)
-  lister-says = let (o, x) = said (querySays query) in subst (ListerSays query text list) (lister-says-only x) x
+  lister-says = go (querySays query)
+    where
+      go : {v : Verdict} → QuerySays query v → Answered
+      go (Q.taken l q e h) = record-answered q (record { written = e; bytes = l; steps = h }) (recordSays text)
+      go (Q.long l) = computed (queryRefused _ (Q.long l) (omega arith))
+      go (Q.wrong l f p d) = computed (queryRefused _ (Q.wrong l f p d) (omega arith))
+      go (Q.many l t x u e h) = computed (queryRefused _ (Q.many l t x u e h) (omega arith))
 
   -- so it is said of what any call answers that meets a lister's promise
   pub lists-say : {after : List ℕ} {g p n k : ℕ} → Lists query text list after g p n k → ListerSays query text list (answered g p n k after)
