@@ -1,5 +1,5 @@
 -- The third demand speaks of something: what it takes as given is met by the trees of the sample rows, and at the limits,
--- with 512 levels of nesting and 16 steps.
+-- with 512 levels of nesting and 16 steps; by computing the limits and the nodes of closed trees. Assumes nothing.
 use mathlib.Core.Path.{_≡_, refl, ap}
 use mathlib.Core.List.{List, [], _∷_, _++_, map}
 use mathlib.Core.Bool.{Bool, true, _&&_, and-eq-true-iff}
@@ -62,7 +62,7 @@ tight cs = record { chars = cs; before = []; after = [] }
 abbrev alone : Value → Tree
 alone v = record { before = []; value = v; after = [] }
 
--- a number of one digit, an array, an object of one member
+-- a number of one digit; an object of one member
 abbrev digit : (b : ℕ) → T (leb 0x31 b && leb b 0x39) → Value
 digit b h = J.number J.unsigned (J.whole (byte b h) []) J.nofrac J.noexp
 

@@ -85,7 +85,8 @@ tail-rises : (m : Node) (ns : List Node) → FirstsRise (m ∷ ns) → FirstsRis
 tail-rises m ns r i j x y h = r (suc i) (suc j) x y (omega arith)
 
 -- two lists of the same nodes by rising first bytes are one
-same-lists : (ns ms : List Node) → FirstsRise ns → FirstsRise ms → ((n : Node) → List·Memᴰ n ns → List·Memᴰ n ms) → ((n : Node) → List·Memᴰ n ms → List·Memᴰ n ns) → ns ≡ ms
+same-lists : (ns ms : List Node) → FirstsRise ns → FirstsRise ms → ((n : Node) → List·Memᴰ n ns → List·Memᴰ n ms) →
+    ((n : Node) → List·Memᴰ n ms → List·Memᴰ n ns) → ns ≡ ms
 same-lists [] [] r r′ f g = refl
 same-lists [] (m ∷ ms) r r′ f g = absurd (List·Memᴰ·not-nil (g m (List·Memᴰ·head refl)))
 same-lists (n ∷ ns) [] r r′ f g = absurd (List·Memᴰ·not-nil (f n (List·Memᴰ·head refl)))
@@ -103,7 +104,8 @@ same-lists (n ∷ ns) (m ∷ ms) r r′ f g =
     heads (inr h) (inr k) = absurd (omega (arith, head-least n ns r k, head-least m ms r′ h))
 
     -- what stands behind the one head does not equal the other
-    later : (a : Node) (xs ys : List Node) {b x : Node} → FirstsRise (a ∷ xs) → a ≡ b → List·Memᴰ x xs → (x ≡ b) ⊎ List·Memᴰ x ys → List·Memᴰ x ys
+    later : (a : Node) (xs ys : List Node) {b x : Node} → FirstsRise (a ∷ xs) → a ≡ b → List·Memᴰ x xs → (x ≡ b) ⊎ List·Memᴰ x ys →
+        List·Memᴰ x ys
     later a xs ys s e h (inl p) = absurd (omega (arith, head-least a xs s h, ap (λ (y : Node). y .first) (p ∙ sym e)))
     later a xs ys s e h (inr k) = k
 

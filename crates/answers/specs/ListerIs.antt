@@ -30,18 +30,14 @@ use Rattle.answers.specs.Enumerates.{Enumerates, enumeration, enumerates
 use Rattle.answers.specs.Within.{QueryIs, RecordIs, query-is-taken, query-steps, record-is-taken, record-tree}
 use Rattle.answers.specs.ListerSays.{numbers, holding, ListerSays, queryRefused, recordRefused, leftOver, all}
 
--- an outcome by the verdict on query and record, the pairs to list and the peak
+-- an outcome by the verdict, the pairs that are written and the peak
+abbrev ending : Verdict → (written : List Span) → (peak : ℕ) → (list : List ℕ) → Outcome
+ending v written k l =
+    answered (v .ground) (v .place) (length written) (peakIf (v .ground) k) (flat written ++ drop (2 * length written) l)
+
+-- by the verdict on query and record, and the pairs to list
 abbrev outcomeBy : Verdict → List Span → (peak : ℕ) → (list : List ℕ) → Outcome
-outcomeBy v ss k l =
-    let written = writtenIf (v .ground) ss l in
-    let end = orElse v (listVerdict ss l) in
-    record {
-      ground = end .ground;
-      place = end .place;
-      pairs = length written;
-      peak = peakIf (end .ground) k;
-      after = flat written ++ drop (2 * length written) l;
-    }
+outcomeBy v ss k l = ending (orElse v (listVerdict ss l)) (writtenIf (v .ground) ss l) k l
 
 outcome-by : (query text list : List ℕ) → outcome query text list ≡ outcomeBy (inputVerdict query text) (spansIn query text) (peakIn query text) list
 unfolding outcome
@@ -72,22 +68,13 @@ outcome-refused query text list v e h =
     ∙ ap (λ (u : Verdict). outcomeBy u (spansIn query text) (peakIn query text) list) e
     ∙ refusal v (spansIn query text) (peakIn query text) list h
 
--- an outcome by the pairs that are written and those that are left over
-abbrev endedBy : (written over : List Span) → (peak : ℕ) → (list : List ℕ) → Outcome
-endedBy written over k l =
-    let end = lister.leftOver over in
-    record {
-      ground = end .ground;
-      place = end .place;
-      pairs = length written;
-      peak = peakIf (end .ground) k;
-      after = flat written ++ drop (2 * length written) l;
-    }
-
+-- the pairs that are written, and those that are left over
 ended-by : (written over ss : List Span) (k : ℕ) (l : List ℕ) → take (pairsOf l) ss ≡ written → drop (pairsOf l) ss ≡ over →
-    outcomeBy verdict.taken ss k l ≡ endedBy written over k l
+    outcomeBy verdict.taken ss k l ≡ ending (lister.leftOver over) written k l
 unfolding orElse writtenIf listVerdict
-ended-by written over ss k l e f = ap (λ (w : List Span). endedBy w (drop (pairsOf l) ss) k l) e ∙ ap (λ (r : List Span). endedBy written r k l) f
+ended-by written over ss k l e f =
+    ap (λ (w : List Span). ending (lister.leftOver (drop (pairsOf l) ss)) w k l) e
+    ∙ ap (λ (r : List Span). ending (lister.leftOver r) written k l) f
 
 -- the numbers written are those of the nodes
 flat-numbers : (ns : List Node) → flat (map spanOf ns) ≡ numbers ns
@@ -108,7 +95,7 @@ module _ {query text : List ℕ} {q : Query} {t : Tree} (hq : QueryIs query q) (
   -- the nodes picked out, those that are written and those that are left over
   outcome-of : (ns before over : List Node) → Enumerates t (stepsOf q) ns → take (pairsOf list) (map spanOf ns) ≡ map spanOf before →
       drop (pairsOf list) (map spanOf ns) ≡ map spanOf over →
-      outcome query text list ≡ endedBy (map spanOf before) (map spanOf over) (peak t (stepsOf q)) list
+      outcome query text list ≡ ending (lister.leftOver (map spanOf over)) (map spanOf before) (peak t (stepsOf q)) list
   unfolding spansIn spansOf peakIn peakOf
   outcome-of ns before over x e f =
       outcome-by query text list
@@ -150,7 +137,7 @@ module _ (query text list : List ℕ) where
   lister-says-only (leftOver q t hq ht before n after x h) = sym (outcome-over hq ht list before n after x h)
   lister-says-only (all q t hq ht ns x h k p) = sym (outcome-all hq ht list ns x h k p)
 
-  -- what is computed is said of the arguments
+  -- some outcome that is said of the arguments is enough: it is the one computed
   abbrev Answered : Type 0
   Answered = ListerSays query text list (outcome query text list)
 
@@ -172,26 +159,27 @@ module _ (query text list : List ℕ) where
       go true e = computed (all q t hq ht ns x (leb-true (length ns) (pairsOf list) e) (peak t (stepsOf q)) (peak-is t (stepsOf q)))
       go false e = split (drop (pairsOf list) ns) refl (leb-false (length ns) (pairsOf list) e)
 
-  record-answered : (q : Query) → QueryIs query q → {v : Verdict} → RecordSays text v → Answered
-  record-answered q hq x = go x
+  record-answered : (q : Query) → QueryIs query q → Answered
+  record-answered q hq = go (recordSays text)
     where
-      says : QuerySays query verdict.taken
-      says = Q.taken (hq .bytes) q (hq .written) (hq .steps)
+      asked : QuerySays query verdict.taken
+      asked = Q.taken (hq .bytes) q (hq .written) (hq .steps)
 
       go : {v : Verdict} → RecordSays text v → Answered
       go (J.taken l j) =
           let ht : RecordIs text (j .tree) = record { written = j .written; bytes = l; levels = j .shallow } in
           let (ns, y) = enumeration (j .tree) (stepsOf q) in
           nodes-answered q (j .tree) hq ht ns y
-      go (J.long l) = computed (recordRefused says _ (J.long l) (omega arith))
-      go (J.wrong p l f d a) = computed (recordRefused says _ (J.wrong p l f d a) (omega arith))
-      go (J.deep p l o) = computed (recordRefused says _ (J.deep p l o) (omega arith))
+      go (J.long l) = computed (recordRefused asked _ (J.long l) (omega arith))
+      go (J.wrong p l f d a) = computed (recordRefused asked _ (J.wrong p l f d a) (omega arith))
+      go (J.deep p l o) = computed (recordRefused asked _ (J.deep p l o) (omega arith))
 
+  -- what a lister answers by computing is said of its arguments
   pub lister-says : ListerSays query text list (outcome query text list)
   lister-says = go (querySays query)
     where
       go : {v : Verdict} → QuerySays query v → Answered
-      go (Q.taken l q e h) = record-answered q (record { written = e; bytes = l; steps = h }) (recordSays text)
+      go (Q.taken l q e h) = record-answered q (record { written = e; bytes = l; steps = h })
       go (Q.long l) = computed (queryRefused _ (Q.long l) (omega arith))
       go (Q.wrong l f p d) = computed (queryRefused _ (Q.wrong l f p d) (omega arith))
       go (Q.many l t x u e h) = computed (queryRefused _ (Q.many l t x u e h) (omega arith))
