@@ -7,7 +7,7 @@ use native.Mathlib.Numerals.{add-one}
 use native.Mathlib.Omega.{arith}
 use lib.Dec.{eqb, ltb}
 use lib.ListN.{length, take, drop, getD, length-drop}
-use lib.Seq.{drop-cons, drop-drop, drop-append-seam, take-append-seam}
+use lib.Seq.{take-append-seam}
 use borrow.Author.Tests.{ltb-true, ltb-false, not-true, ne-eqb}
 use Rattle.encoding.specs.Class.{classOf}
 use Rattle.encoding.specs.Bytes.{Blanks, putBlanks, putIn}
@@ -18,21 +18,10 @@ use Rattle.json.specs.Read.{in-bounds}
 use Rattle.select.specs.Nodes.{size, keySize}
 use Rattle.swar.specs.Kinds.{body, blank}
 use Rattle.swar.specs.Run.{Run}
+use Rattle.scan.specs.Places.{Head, head-of, past, past-blanks}
 use Rattle.scan.specs.Scans.{isWordByte, IsScalar, EndsBlanks, EndsString, EndsScalar, EntersItem}
 use Rattle.scan.specs.Shape.{isBlank, endsWord, solid, stopped, wordy, Piece, plain, escaped, putPieces}
 use Rattle.scan.specs.ShapeLaws.{solid-key, solid-colon, blank-is, wordy-literal, wordy-number, pieces, chars-are}
-
--- what stands at a place
-pub record Head (s : List ℕ) (a b : ℕ) (u : List ℕ) : Type 0 where
-  pub inside : a < length s
-  pub byte-is : getD s a 0 ≡ b
-  pub rest-is : drop (suc a) s ≡ u
-
-pub head-of : (s : List ℕ) (a b : ℕ) (u : List ℕ) → drop a s ≡ b ∷ u → Head s a b u
-head-of s a b u e =
-    let h : a < length s = omega (arith, length-drop a s, ap length e) in
-    let z : getD s a 0 ∷ drop (suc a) s ≡ b ∷ u = sym (drop-cons s a 0 h) ∙ e in
-    record { inside = h; byte-is = cc; rest-is = cc }
 
 module _ {p : ℕ → Bool} {s : List ℕ} where
   -- a run ends where a byte is not of its kind, and goes on where one is
@@ -252,15 +241,6 @@ module _ (s : List ℕ) (a : ℕ) where
   -- nothing stands at the end of the record
   pub scalar-none : length s ≤ a → a ≤ length s → EndsScalar s a a
   scalar-none h l = record { onward = omega arith; within = l; exact = λ v rest c d f. absurd (omega (arith, length-drop a s, ap length d, length-value v rest, value-positive v)) }
-
--- what stands after a part
-past : (s : List ℕ) (a : ℕ) (xs u : List ℕ) → drop a s ≡ xs ++ u → drop (a + length xs) s ≡ u
-past s a xs u e = sym (drop-drop (length xs) a s) ∙ ap (drop (length xs)) e ∙ drop-append-seam xs u
-
-past-blanks : (s : List ℕ) (a : ℕ) (w : Blanks) (u : List ℕ) → drop a s ≡ putBlanks w u → drop (a + length w) s ≡ u
-past-blanks s a w u e =
-    let n : a + length (putBlanks w []) ≡ a + length w = omega (arith, length-blanks w []) in
-    ap (λ (i : ℕ). drop i s) (sym n) ∙ past s a (putBlanks w []) u (e ∙ blanks-split w u)
 
 -- an element: only the blanks before it
 pub enters-element : (s : List ℕ) (a b : ℕ) → EndsBlanks s a b → EntersItem s a false b 0 0
