@@ -1,12 +1,14 @@
 -- What is still ahead of a walk inside a container, and what the whole of it comes to: a tally and a place.
 use mathlib.Core.Path.{_≡_}
 use mathlib.Core.List.{List, [], _++_}
+use mathlib.Core.Bool.{true}
 use Prim.Native.Nat.{ℕ, _+_, _≤_}
 use lib.ListN.{length, drop}
 use Rattle.encoding.specs.Bytes.{Blanks, putBlanks}
 use Rattle.json.specs.Grammar.{Kind, Key, Value, Items, More, putKey, putValue, putItems, putMore, nesting, itemsNesting, moreNesting}
 use Rattle.select.specs.Nodes.{Label, size, keySize, labelOf}
 use Rattle.select.specs.Visits.{visits, itemsVisits, moreVisits}
+use Rattle.scan.specs.Shape.{stopped}
 use Rattle.automaton.specs.State.{State}
 use Rattle.automaton.specs.Tally.{Tally, tallied}
 
@@ -46,3 +48,12 @@ module _ (next : State → Label → State) (s rest : List ℕ) (k : Kind) (st :
     pub shallow : itemsNesting is ≤ n
     pub runs : tallied t (itemsVisits next is st i) ≡ goal
     pub ends : end ≡ i + length (putItems is [])
+
+-- a value is ahead, with the state st, of which n levels may be opened; what follows it ends a word
+pub record ValueAhead (next : State → Label → State) (s rest : List ℕ) (st : State) (n : ℕ) (goal : Tally) (end : ℕ) (i : ℕ) (t : Tally) : Type 0 where
+  pub v : Value
+  pub here : drop i s ≡ putValue v rest
+  pub stops : stopped rest ≡ true
+  pub shallow : nesting v ≤ n
+  pub runs : tallied t (visits next v st i) ≡ goal
+  pub ends : end ≡ i + size v

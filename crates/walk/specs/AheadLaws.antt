@@ -104,18 +104,18 @@ module _ (next : State → Label → State) (s rest : List ℕ) (k : Kind) (st :
         go : (is : Items k) → drop i s ≡ putItems is rest → itemsNesting is ≤ n → tallied t (itemsVisits next is st i) ≡ goal → end ≡ i + length (putItems is []) → ItemAt i t
         go (G.empty w) e l r q = absurd (f (ap classOf (at-closing s rest k i c blanks w e .1 .byte-is) ∙ closing-class k))
         go (G.items w key v m) e l r q =
-            record
-              { w = w
-              ; key = key
-              ; v = v
-              ; m = m
-              ; j = 0
-              ; here = e
-              ; shallow = le-trans (le-max-left (nesting v) (moreNesting m)) l
-              ; shallow-more = le-trans (le-max-right (nesting v) (moreNesting m)) l
-              ; runs = r
-              ; ends = omega (arith, item-length k w key v (putMore m []))
-              }
+            record {
+              w = w;
+              key = key;
+              v = v;
+              m = m;
+              j = 0;
+              here = e;
+              shallow = le-trans (le-max-left (nesting v) (moreNesting m)) l;
+              shallow-more = le-trans (le-max-right (nesting v) (moreNesting m)) l;
+              runs = r;
+              ends = omega (arith, item-length k w key v (putMore m []));
+            }
 
   -- an item's value stands where the item's key ends, and what follows it ends a word
   module _ (i : ℕ) (t : Tally) (x : ItemAt i t) where
@@ -141,17 +141,17 @@ module _ (next : State → Label → State) (s rest : List ℕ) (k : Kind) (st :
     pub item-passed : (e : ℕ) (u : Tally) → e ≡ item-value + size (x .v) → tallied t (visits next (x .v) (next st (labelOf k (x .key) (x .j))) item-value) ≡ u → MoreAt e u
     unfolding item-value
     item-passed e u h f =
-        record
-          { m = x .m
-          ; j = x .j + 1
-          ; here = ap (λ (a : ℕ). drop a s) h ∙ past-value s item-value (x .v) (putMore (x .m) rest) value-here
-          ; shallow = x .shallow-more
-          ; runs =
+        record {
+          m = x .m;
+          j = x .j + 1;
+          here = ap (λ (a : ℕ). drop a s) h ∙ past-value s item-value (x .v) (putMore (x .m) rest) value-here;
+          shallow = x .shallow-more;
+          runs =
               ap₂ (λ (y : Tally) (a : ℕ). tallied y (moreVisits next (x .m) st (x .j + 1) a)) (sym f) h
               ∙ sym (tallied-append t (visits next (x .v) (next st (labelOf k (x .key) (x .j))) item-value) (moreVisits next (x .m) st (x .j + 1) (item-value + size (x .v))))
-              ∙ x .runs
-          ; ends = omega (arith, x .ends)
-          }
+              ∙ x .runs;
+          ends = omega (arith, x .ends);
+        }
 
   -- after an item and blanks: a comma and an item, or the closing bracket
   module _ (i c : ℕ) (t : Tally) (x : MoreAt i t) (blanks : EndsBlanks s i c) where
@@ -180,20 +180,21 @@ module _ (next : State → Label → State) (s rest : List ℕ) (k : Kind) (st :
         go (G.more w w′ key v m) e l r q =
             let y = at-comma s rest k i c blanks w (putBlanks w′ (putKey k key (putValue v (putMore m rest)))) e in
             let b : i + length w + 1 + length w′ + keySize k key ≡ valueAt k (c + 1) w′ key = omega (arith, y .0) in
-            record
-              { w = w′
-              ; key = key
-              ; v = v
-              ; m = m
-              ; j = x .j
-              ; here = ap (λ (a : ℕ). drop a s) (add-one c) ∙ y .1 .rest-is
-              ; shallow = le-trans (le-max-left (nesting v) (moreNesting m)) l
-              ; shallow-more = le-trans (le-max-right (nesting v) (moreNesting m)) l
-              ; runs = ap (λ (a : ℕ). tallied t (visits next v (next st (labelOf k key (x .j))) a ++ moreVisits next m st (x .j + 1) (a + size v))) (sym b) ∙ r
-              ; ends =
-                  omega
-                  (arith
-                  , length-blanks w (0x2C ∷ putBlanks w′ (putKey k key (putValue v (putMore m []))))
-                  , item-length k w′ key v (putMore m [])
-                  , y .0)
-              }
+            record {
+              w = w′;
+              key = key;
+              v = v;
+              m = m;
+              j = x .j;
+              here = ap (λ (a : ℕ). drop a s) (add-one c) ∙ y .1 .rest-is;
+              shallow = le-trans (le-max-left (nesting v) (moreNesting m)) l;
+              shallow-more = le-trans (le-max-right (nesting v) (moreNesting m)) l;
+              runs = ap (λ (a : ℕ). tallied t (visits next v (next st (labelOf k key (x .j))) a ++ moreVisits next m st (x .j + 1) (a + size v))) (sym b) ∙ r;
+              ends =
+                  omega (
+                    arith,
+                    length-blanks w (0x2C ∷ putBlanks w′ (putKey k key (putValue v (putMore m [])))),
+                    item-length k w′ key v (putMore m []),
+                    y .0,
+                  );
+            }
