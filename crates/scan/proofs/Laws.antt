@@ -7,7 +7,7 @@ use native.Mathlib.Numerals.{add-one}
 use native.Mathlib.Omega.{arith}
 use lib.Dec.{eqb, ltb}
 use lib.ListN.{length, take, drop, getD, length-drop}
-use lib.Seq.{take-append-seam}
+use lib.Seq.{slice, take-append-seam}
 use borrow.Author.Tests.{ltb-true, ltb-false, not-true, ne-eqb}
 use Rattle.encoding.specs.Class.{classOf}
 use Rattle.encoding.specs.Bytes.{Blanks, putBlanks, putIn}
@@ -18,7 +18,7 @@ use Rattle.json.specs.Read.{in-bounds}
 use Rattle.select.specs.Nodes.{size, keySize}
 use Rattle.swar.specs.Kinds.{body, blank}
 use Rattle.swar.specs.Run.{Run}
-use Rattle.scan.specs.Places.{Head, head-of, past, past-blanks}
+use Rattle.scan.specs.Places.{Head, head-of, past, past-blanks, slice-is}
 use Rattle.scan.specs.Scans.{isWordByte, IsScalar, EndsBlanks, EndsString, EndsScalar, EntersItem}
 use Rattle.scan.specs.Shape.{isBlank, endsWord, solid, stopped, wordy, Piece, plain, escaped, putPieces}
 use Rattle.scan.specs.ShapeLaws.{solid-key, solid-colon, blank-is, wordy-literal, wordy-number, pieces, chars-are}
@@ -291,10 +291,11 @@ module _ (s : List ℕ) (a b : ℕ) (first : EndsBlanks s a b) (w : Blanks) (key
     name-end : e ≡ b + 1 + length (putChars (key .chars) []) + 1
     name-end = name .exact (key .chars) afterName name-here
 
-    name-bytes : take (e - 1 - (b + 1)) (drop (b + 1) s) ≡ putChars (key .chars) []
+    name-bytes : slice (b + 1) (e - 1) s ≡ putChars (key .chars) []
     name-bytes =
         let n : e - 1 - (b + 1) ≡ length (putChars (key .chars) []) = omega (arith, name-end) in
-        ap (λ (i : ℕ). take i (drop (b + 1) s)) n
+        slice-is (b + 1) (e - 1) s
+        ∙ ap (λ (i : ℕ). take i (drop (b + 1) s)) n
         ∙ ap (take (length (putChars (key .chars) []))) (name-here ∙ chars-split (key .chars) (0x22 ∷ afterName))
         ∙ take-append-seam (putChars (key .chars) []) (0x22 ∷ afterName)
 

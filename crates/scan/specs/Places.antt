@@ -1,10 +1,10 @@
 -- What stands at a place of a record, and after a part that stands there.
 use mathlib.Core.Path.{_≡_, sym, ap, _∙_}
 use mathlib.Core.List.{List, [], _∷_, _++_}
-use Prim.Native.Nat.{ℕ, suc, _+_, _<_}
+use Prim.Native.Nat.{ℕ, zero, suc, _+_, _-_, _<_}
 use native.Mathlib.Omega.{arith}
-use lib.ListN.{length, drop, getD, length-drop}
-use lib.Seq.{drop-cons, drop-drop, drop-append-seam}
+use lib.ListN.{length, take, drop, getD, length-drop}
+use lib.Seq.{drop-cons, drop-drop, drop-append-seam, slice, take-nil}
 use Rattle.encoding.specs.Bytes.{Blanks, putBlanks}
 use Rattle.json.specs.Append.{blanks-split, length-blanks, key-split, value-split}
 use Rattle.json.specs.Grammar.{Kind, Key, Value, putKey, putValue}
@@ -37,3 +37,10 @@ past-key s a k key u e = past s a (putKey k key []) u (e ∙ key-split k key u)
 pub past-value : (s : List ℕ) (a : ℕ) (v : Value) (u : List ℕ) → drop a s ≡ putValue v u → drop (a + size v) s ≡ u
 unfolding size
 past-value s a v u e = past s a (putValue v []) u (e ∙ value-split v u)
+
+-- a part of a record by its two ends, and by its start and its length
+pub slice-is : {A : Type 0} (x y : ℕ) (s : List A) → slice x y s ≡ take (y - x) (drop x s)
+slice-is zero y s = let e : y ≡ y - 0 = omega arith in ap (λ (n : ℕ). take n s) e
+slice-is (suc x) zero s = let e : 0 - suc x ≡ 0 = omega arith in sym (ap (λ (n : ℕ). take n (drop (suc x) s)) e)
+slice-is (suc x) (suc y) [] = sym (take-nil (suc y - suc x))
+slice-is (suc x) (suc y) (b ∷ s) = let e : y - x ≡ suc y - suc x = omega arith in slice-is x y s ∙ ap (λ (n : ℕ). take n (drop x s)) e

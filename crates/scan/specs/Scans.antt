@@ -2,8 +2,9 @@
 use mathlib.Core.Path.{_≡_}
 use mathlib.Core.List.{List, [], _∷_}
 use mathlib.Core.Bool.{Bool, true, false, not}
-use Prim.Native.Nat.{ℕ, _+_, _-_, _≤_, _<_}
-use lib.ListN.{length, take, drop}
+use Prim.Native.Nat.{ℕ, _+_, _≤_, _<_}
+use lib.ListN.{length, drop}
+use lib.Seq.{slice}
 use Rattle.encoding.specs.Bytes.{Blanks, putBlanks}
 use Rattle.json.specs.Grammar.{Char, Literal, Minus, Int, Frac, Exp, Kind, array, object, Key, Value, literal, number, string, container, putChars, putKey, putValue}
 use Rattle.select.specs.Nodes.{size, keySize}
@@ -45,7 +46,7 @@ kindIf false = array
 -- a member's name, as written, stands from place x to place y
 abbrev pub NameAt : (k : Kind) → Key k → List ℕ → (x y : ℕ) → Type 0
 NameAt array key s x y = Unit {0}
-NameAt object key s x y = take (y - x) (drop x s) ≡ putChars (key .chars) []
+NameAt object key s x y = slice x y s ≡ putChars (key .chars) []
 
 -- the first byte of the value of an item that stands at a, and where its name's bytes are
 pub record EntersItem (s : List ℕ) (a : ℕ) (isObject : Bool) (v x y : ℕ) : Type 0 where
