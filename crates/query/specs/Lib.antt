@@ -4,8 +4,10 @@ pub mod Grammar
 pub mod Machine
 pub mod Place
 pub mod Read
+pub mod Reader
 pub mod Rows
 pub mod Says
+pub mod Scans
 pub mod Sound
 pub mod Spell
 pub mod Steps

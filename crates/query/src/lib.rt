@@ -1,1 +1,3 @@
-// The query grammar: definitions and theorems only, in specs/.
+// The query reader: grounds 1 to 3, and the steps of a query as masks and bounds of names.
+mod scan;
+mod step;
