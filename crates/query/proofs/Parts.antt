@@ -6,12 +6,12 @@ use mathlib.Core.Bool.{Bool, true, false}
 use Prim.Native.Nat.{ℕ, suc, _+_, _≤_, _<_}
 use native.Mathlib.Omega.{arith}
 use lib.Dec.{T}
-use lib.ListN.{length, getD, drop, drop-of-length-le}
+use lib.ListN.{length, getD, drop}
 use lib.Seq.{slice}
 use Rattle.encoding.specs.Bytes as B
 use Rattle.query.specs.declared.step.Found.{Found}
 use Rattle.query.specs.declared.step.StepRead.{StepRead}
-use Rattle.query.specs.declared.step.StepRead.the-variants.{Taken, End, Refused}
+use Rattle.query.specs.declared.step.StepRead.the-variants.{Taken, Refused}
 use Rattle.query.specs.Grammar as G
 use Rattle.query.specs.Grammar.{Quote, quoteByte, Depth}
 use Rattle.query.specs.Steps as S
@@ -32,7 +32,7 @@ use Rattle.query.proofs.Letters.{spell-bad}
 use Rattle.query.proofs.Names.{miss-only}
 
 -- a reading that says nothing of the step before it
-data Ended : Reading → Type 0 where
+pub data Ended : Reading → Type 0 where
   clean : (l : List Placed) → Ended (good (named [] l))
   cut : (p : ℕ) → Ended (bad p)
 
@@ -73,7 +73,7 @@ unfolding reading
 ended-gap n [] = cut n
 ended-gap n (b ∷ s) = ended-state n b s (step (M.at gap) b) refl (begins-lives b) (ended-gap (suc n) s)
 
-ended : (n : ℕ) (s : List ℕ) → Ended (reading done n s)
+pub ended : (n : ℕ) (s : List ℕ) → Ended (reading done n s)
 unfolding reading
 ended n [] = clean []
 ended n (b ∷ s) = subst Ended (sym (done-gap n b s)) (ended-gap n (b ∷ s))
@@ -224,9 +224,6 @@ pub deep-bracket : {q : List ℕ} {n place : ℕ} {a : StepRead} → n < length 
 deep-bracket {q} {n} h e z = part-from (omega arith) (kept-at (M.dotted G.deep) q n h opened (ap (step (M.at (M.dotted G.deep))) e ∙ bracket-opens) refl) z
 
 -- a whole step
-pub step-end : {q : List ℕ} {n : ℕ} → length q ≤ n → StepAt q n End
-unfolding reading
-step-end {q} {n} h = Reader.StepAt.end (ap (reading done n) (drop-of-length-le q h))
 
 -- what its first bytes say, and the rest of it
 module _ (q : List ℕ) (c : Control) (n k place : ℕ) (deep : Bool) (said : Reading → Reading) (l : n ≤ k) (bads : (p : ℕ) → said (bad p) ≡ bad p)

@@ -1,6 +1,8 @@
+pub mod Answer
 pub mod Append
 pub mod Examples
 pub mod Grammar
+pub mod Holds
 pub mod Machine
 pub mod Place
 pub mod Read

@@ -7,7 +7,7 @@ use lib.ListN.{length, drop}
 use lib.Seq.{slice}
 use Rattle.query.specs.declared.step.Found.{Found}
 use Rattle.query.specs.declared.step.StepRead.{StepRead}
-use Rattle.query.specs.declared.step.StepRead.the-variants.{Taken, End, Refused}
+use Rattle.query.specs.declared.step.StepRead.the-variants.{Taken, Refused}
 use Rattle.query.specs.Grammar.{Depth, plain, deep}
 use Rattle.query.specs.Steps as S
 use Rattle.query.specs.Steps.{Selector}
@@ -27,6 +27,11 @@ selectorAt q false a b = S.name (slice a b q)
 -- the step that was found
 abbrev pub placedAt : List ℕ → Found → Placed
 placedAt q f = record { place = f .place; step = record { deep = f .deep; selector = selectorAt q (f .every) (f .start) (f .end) } }
+
+-- the place of the step, or of the dead byte
+abbrev pub readPlace : StepRead → ℕ
+readPlace (Taken f m) = f .place
+readPlace (Refused p) = p
 
 -- its name, or nothing, stands in the query
 pub record Bounded (q : List ℕ) (f : Found) : Type 0 where
@@ -55,9 +60,8 @@ pub data PartRead (q : List ℕ) (c : Control) (n place : ℕ) (deep : Bool) : S
       reading c n (drop n q) ≡ choose (selectorAt q (f .every) (f .start) (f .end)) (reading done m (drop m q)) → PartRead q c n place deep (Taken f m)
   refused : (p : ℕ) → reading c n (drop n q) ≡ bad p → PartRead q c n place deep (Refused p)
 
--- from n on a step stands, and the next one from m on; or the query ends at n; or the byte at p is dead
+-- from n on a step stands, and what follows it from m on; or the byte at p is dead
 pub data StepAt (q : List ℕ) (n : ℕ) : StepRead → Type 0 where
   taken : (f : Found) (m : ℕ) → Bounded q f → n < m → m ≤ length q → reading done n (drop n q) ≡ push (placedAt q f) (reading done m (drop m q)) →
       StepAt q n (Taken f m)
-  end : reading done n (drop n q) ≡ good (named [] []) → StepAt q n End
   refused : (p : ℕ) → reading done n (drop n q) ≡ bad p → StepAt q n (Refused p)

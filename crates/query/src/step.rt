@@ -8,7 +8,7 @@ ghost use Rattle.encoding.specs.RowTable.{RowTable};
 ghost use Rattle.query.specs.Grammar.{Quote, quoteByte};
 ghost use Rattle.query.specs.Machine.{dotted, opened, inside, quoted};
 ghost use Rattle.query.specs.Scans.{deeperByte};
-ghost use Rattle.query.specs.Reader.{depthOf, Closed, PartRead, StepAt};
+ghost use Rattle.query.specs.Reader.{depthOf, readPlace, Closed, PartRead, StepAt};
 
 const DOT: u8 = b'.';
 
@@ -32,11 +32,20 @@ pub struct Found {
     pub end: usize,
 }
 
-// What stands at a place: a step, and the place after it; the end of the query; or a dead byte.
+// What stands at a place: a step, and the place after it; or a refusal, and the place of the dead byte.
 pub enum StepRead {
     Taken(Found, usize),
-    End,
     Refused(usize),
+}
+
+// The place of the step that was read, or of the dead byte.
+pub fn place_of(read: StepRead) -> usize
+    ensures { λ r. ⌜ r ≡ readPlace read ⌝ }
+{
+    match read {
+        StepRead::Taken(found, _) => found.place,
+        StepRead::Refused(place) => place,
+    }
 }
 
 // The end of a step in brackets, from `at` on: blanks and the closing bracket.
@@ -161,14 +170,11 @@ fn read_deep(rows: &[u8; 45], query: &[u8], place: usize, at: usize) -> StepRead
     read_short(rows, query, place, true, at)
 }
 
-// The step that stands at `at`, blanks before it included; the end of the query, if it ends there; or the place of the dead byte.
+// The step that stands at `at`, before the query's end, with the blanks before it; or a refusal and the place of the dead byte.
 pub fn read_step(rows: &[u8; 45], query: &[u8], at: usize) -> StepRead
-    requires { ⌜ (at ≤ length (now query)) × RowTable (now rows) ⌝ }
+    requires { ⌜ (at < length (now query)) × RowTable (now rows) ⌝ }
     ensures { λ r. ⌜ StepAt (now (query .entry)) at r ⌝ }
 {
-    if at >= query.len() {
-        return StepRead::End;
-    }
     let begin = scan::skip_blanks(query, at);
     if begin >= query.len() {
         return StepRead::Refused(begin);
