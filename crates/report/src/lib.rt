@@ -1,0 +1,1 @@
+// What the program `picklist` prints, written into a lent buffer.
