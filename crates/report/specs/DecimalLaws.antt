@@ -80,10 +80,11 @@ decimal-value = by-digits (λ n. valueOf (decimal n) ≡ n) small more
   where
     small : (n : ℕ) → n < 10 → valueOf (decimal n) ≡ n
     small n h = ap valueOf (decimal-small n h) ∙ omega arith
+
     more : (n : ℕ) → 10 ≤ n → valueOf (decimal (n / 10)) ≡ n / 10 → valueOf (decimal n) ≡ n
     more n h e =
         let s : readOn 0 (decimal n) ≡ readOn (n / 10) (digit (n % 10) ∷ [])
-            = ap (readOn 0) (decimal-more n h) ∙ read-append 0 (decimal (n / 10)) (digit (n % 10) ∷ []) ∙ ap (λ (k : ℕ). readOn k (digit (n % 10) ∷ [])) e in
+        = ap (readOn 0) (decimal-more n h) ∙ read-append 0 (decimal (n / 10)) (digit (n % 10) ∷ []) ∙ ap (λ (k : ℕ). readOn k (digit (n % 10) ∷ [])) e in
         s ∙ omega arith
 
 -- its bytes are digits
@@ -95,6 +96,7 @@ decimal-digits n b = by-digits (λ n. List·Memᴰ b (decimal n) → Digit b) sm
   where
     small : (n : ℕ) → n < 10 → List·Memᴰ b (decimal n) → Digit b
     small n h m = let e : b ≡ digit n = List·Memᴰ·eq-of-singleton (rw (decimal-small n h) at m) in omega arith
+
     more : (n : ℕ) → 10 ≤ n → (List·Memᴰ b (decimal (n / 10)) → Digit b) → List·Memᴰ b (decimal n) → Digit b
     more n h on m =
         ⊎-elim on (λ k. let e : b ≡ digit (n % 10) = List·Memᴰ·eq-of-singleton k in omega arith)
@@ -109,11 +111,13 @@ leads = by-digits Leads small more
   where
     small : (n : ℕ) → n < 10 → Leads n
     small n h = rw (decimal-small n h) (omega arith, λ g. omega arith)
+
     more : (n : ℕ) → 10 ≤ n → Leads (n / 10) → Leads n
     more n h e =
-        rw (decimal-more n h)
-        (simp length-append (omega arith),
-         λ g. rw (List·getD-append (decimal (n / 10)) (digit (n % 10) ∷ []) 0 0 (e .0)) (e .1 (omega arith)))
+        rw (decimal-more n h) (
+          simp length-append (omega arith),
+          λ g. rw (List·getD-append (decimal (n / 10)) (digit (n % 10) ∷ []) 0 0 (e .0)) (e .1 (omega arith)),
+        )
 
 pub decimal-leads : (n : ℕ) → 0 < n → 0x31 ≤ getD (decimal n) 0 0
 decimal-leads n = leads n .1
@@ -130,3 +134,11 @@ decimal-length (suc k) n h = go (ltb n 10) refl (decimal-length k (n / 10) (omeg
     go : (x : Bool) → ltb n 10 ≡ x → length (decimal (n / 10)) ≤ suc k → length (decimal n) ≤ suc (suc k)
     go true e on = rw (decimal-small n (ltb-true n 10 e)) (omega arith)
     go false e on = rw (decimal-more n (ltb-false n 10 e)) (simp length-append (omega arith))
+
+-- one digit more than its tenth
+pub decimal-longer : (n : ℕ) → 10 ≤ n → length (decimal n) ≡ length (decimal (n / 10)) + 1
+decimal-longer n h = rw (decimal-more n h) (length-append (decimal (n / 10)) (digit (n % 10) ∷ []))
+
+-- a number of 32 bits has at most ten digits
+pub decimal-word : (n : ℕ) → n < 2 ^ 32 → length (decimal n) ≤ 10
+decimal-word n h = decimal-length 9 n (omega arith)

@@ -30,19 +30,29 @@ unfoldable pub line : List ℕ → List (List ℕ) → List ℕ
 line f [] = f ++ (feed ∷ [])
 line f (g ∷ gs) = f ++ (space ∷ line g gs)
 
--- a line for each of k pairs of the list from pair i on: "number of the node from 1, first byte, byte after the last, in decimal"
+-- the line of pair i of the list: "number of the node from 1, first byte, byte after the last, in decimal"
+abbrev pub pairLine : (i : ℕ) → List ℕ → List ℕ
+pairLine i l = line (decimal (i + 1)) (decimal (getD l (i * 2) 0) ∷ decimal (getD l (i * 2 + 1) 0) ∷ [])
+
+-- a line for each of k pairs from pair i on
 unfoldable pub pairLines : (i k : ℕ) → List ℕ → List ℕ
 unfolding line decimal
 pairLines i zero l = []
-pairLines i (suc k) l =
-    line (decimal (i + 1)) (decimal (getD l (i * 2) 0) ∷ decimal (getD l (i * 2 + 1) 0) ∷ []) ++ pairLines (i + 1) k l
+pairLines i (suc k) l = pairLine i l ++ pairLines (i + 1) k l
 
--- the text for an answer: "`matches` and the number of pairs written", and then the pairs; "a refusal prints only `refused`, the ground
--- and the place"
+-- "the first line is `matches` and the number of pairs written", and the pairs follow
+abbrev pub matches : (pairs : ℕ) → List ℕ → List ℕ
+matches n l = line (ascii "matches") (decimal n ∷ []) ++ pairLines 0 n l
+
+-- "a refusal prints only `refused`, the ground and the place"
+abbrev pub refusal : (ground place : ℕ) → List ℕ
+refusal g p = line (ascii "refused") (decimal g ∷ decimal p ∷ [])
+
+-- the text for an answer
 unfoldable pub report : (ground place pairs : ℕ) → List ℕ → List ℕ
 unfolding line decimal pairLines
-report zero p n l = line (ascii "matches") (decimal n ∷ []) ++ pairLines 0 n l
-report (suc g) p n l = line (ascii "refused") (decimal (suc g) ∷ decimal p ∷ [])
+report zero p n l = matches n l
+report (suc g) p n l = refusal (suc g) p
 
 -- the list of 256 pairs
 abbrev pub emptyList : List ℕ
@@ -57,7 +67,11 @@ reportOn q r = report (ground q r emptyList) (place q r emptyList) (pairs q r em
 abbrev pub maxInput : ℕ
 maxInput = 65536
 
+-- "input over 65,536 bytes prints `too long`"
+abbrev pub tooLong : List ℕ
+tooLong = line (ascii "too long") []
+
 -- what is printed
 unfoldable pub picklistOutput : List ℕ → List ℕ
 unfolding queryIn recordIn line reportOn
-picklistOutput s = elim (leb (length s) maxInput) [ true ↦ reportOn (queryIn s) (recordIn s) | false ↦ line (ascii "too long") [] ]
+picklistOutput s = elim (leb (length s) maxInput) [ true ↦ reportOn (queryIn s) (recordIn s) | false ↦ tooLong ]
