@@ -3,7 +3,7 @@ use mathlib.Core.Path.{_≡_, refl, sym, ap, ap₂, _∙_}
 use mathlib.Core.Bool.{Bool, true, false, not, xor, _&&_, _||_}
 use mathlib.Core.Logic.{_⊎_, inl, inr, ⊎-elim}
 use Prim.Native.Nat.{ℕ, zero, suc, _+_, _-_, _*_, _/_, _%_, _^_, _<_, _≤_, min, max}
-use native.Mathlib.Nat.{min-le-left, max-le, min-zero, max-zero, zero-min, zero-max, suc-min-suc, suc-max-suc, pow-suc, mul-one, mod-eq-of-lt}
+use native.Mathlib.Nat.{min-le-left, max-le, min-zero, max-zero, zero-min, zero-max, suc-min-suc, suc-max-suc, pow-suc, mul-one, mod-eq-of-lt, mod-lt}
 use native.Mathlib.Numerals.{add-one}
 use native.Mathlib.Omega.{arith}
 use lib.Bits.{bitAnd, bitOr, bitXor, differ, and-step, or-step, xor-step, and-mask, shifted-half, shifted-even}
@@ -378,3 +378,12 @@ module _ (n k i : ℕ) (f : ℕ → Bool) (low : Lowest k (number n f) i) where
 
   pub lowest-none : (j : ℕ) → j < n → j < i → f j ≡ false
   lowest-none j h l = sym (bit-number n j f h) ∙ low .none-below j l
+
+-- the number of k bits with bit n alone
+pub bit-alone : (k n i : ℕ) → n < k → bit i (1 * 2 ^ n % 2 ^ k) ≡ eqb i n
+bit-alone k n i h = ⊎-elim (λ (l : i < k). bit-single k n i l)
+    (λ (l : k ≤ i). bit-high k i (1 * 2 ^ n % 2 ^ k) (mod-lt (1 * 2 ^ n) (pow-pos k)) l ∙ sym (ne-eqb i n (λ (e : i ≡ n). omega arith)))
+    (lt-or-ge i k)
+
+pub bit-with : (k m n i : ℕ) → n < k → bit i (bitOr m (1 * 2 ^ n % 2 ^ k)) ≡ (bit i m || (true && eqb i n))
+bit-with k m n i h = bit-or i m (1 * 2 ^ n % 2 ^ k) ∙ ap (λ (b : Bool). bit i m || b) (bit-alone k n i h)
