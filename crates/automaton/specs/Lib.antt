@@ -2,5 +2,6 @@ pub mod State
 pub mod StateIs
 pub mod Tally
 pub mod TallyIs
+pub mod Lists
 pub mod Halves
 pub mod Dead
