@@ -4,4 +4,5 @@ pub mod Tally
 pub mod TallyIs
 pub mod Lists
 pub mod Halves
+pub mod Bounds
 pub mod Dead
