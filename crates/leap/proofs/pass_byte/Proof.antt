@@ -26,16 +26,25 @@ add-after : tie.Need-add-after
 add-after c = search needs
 
 returns-6 : tie.Need-returns-6
-returns-6 c = after-opening (c .before .before .before .before .before .before .class .ensures) (c .before .before .before .before .if2 .left) (c .before .before .before .if3 .left) (c .before .before .if5 .left) (c .before .if6 .taken) (c .before .before .before .before .before .before .before .pre .1 .0)
+returns-6 c =
+    let plain = c .before .before in
+    let byte = plain .before .before .before .before in
+    after-opening (byte .class .ensures) (plain .before .before .if2 .left) (plain .before .if3 .left) (plain .if5 .left) (c .before .if6 .taken) (byte .before .pre .1 .0)
 
 sub-after : tie.Need-sub-after
 sub-after c = search needs
 
 returns-7 : tie.Need-returns-7
-returns-7 c = after-closing (c .before .before .before .before .before .before .before .class .ensures) (c .before .before .before .before .before .if2 .left) (c .before .before .before .before .if3 .left) (c .before .before .before .if5 .left) (c .before .if7 .taken) (c .before .before .before .before .before .before .before .before .pre .1 .0)
+returns-7 c =
+    let plain = c .before .before .before in
+    let byte = plain .before .before .before .before in
+    after-closing (byte .class .ensures) (plain .before .before .if2 .left) (plain .before .if3 .left) (plain .if5 .left) (c .before .if7 .taken) (byte .before .pre .1 .0)
 
 returns-8 : tie.Need-returns-8
-returns-8 c = after-other (c .before .before .before .before .before .before .class .ensures) (c .before .before .before .before .if2 .left) (c .before .before .before .if3 .left) (c .before .before .if5 .left) (c .before .if6 .left) (c .if7 .left)
+returns-8 c =
+    let plain = c .before .before in
+    after-other (plain .before .before .before .before .class .ensures) (plain .before .before .if2 .left) (plain .before .if3 .left) (plain .if5 .left)
+    (c .before .if6 .left) (c .if7 .left)
 
 pub pass-byte-spec : {M : Type 1} → statement M
 pass-byte-spec =
