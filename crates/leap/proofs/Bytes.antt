@@ -38,6 +38,21 @@ turned false = refl
 
 -- b is a byte, and k its class
 module _ {b k : ℕ} {inside odd : Bool} {n : ℕ} (is : k ≡ classOf b) where
+  pub after-nothing : k ≡ 0 → After b inside odd n inside false n
+  after-nothing h =
+      let no : (j : ℕ) → (j ≡ 0 → ⊥) → classOf b ≡ j → ⊥ = λ j ne e. ne (sym e ∙ sym is ∙ h) in
+      record {
+        inside-is = rw (ne-eqb b 0x22 (λ z. no 5 (λ e. omega arith) (quote-class b .1 z))) (kept inside);
+        odd-is = rw (ne-eqb b 0x5C (λ z. no 6 (λ e. omega arith) (backslash-class b .1 z))) refl;
+        depth-is = rw (
+          ne-eqb b 0x5B (λ z. no 1 (λ e. omega arith) (opening-class b .1 (inl z))),
+          ne-eqb b 0x7B (λ z. no 1 (λ e. omega arith) (opening-class b .1 (inr z))),
+          ne-eqb b 0x5D (λ z. no 2 (λ e. omega arith) (closing-class b .1 (inl z))),
+          ne-eqb b 0x7D (λ z. no 2 (λ e. omega arith) (closing-class b .1 (inr z))),
+        )
+            (calm-place n);
+      }
+
   pub after-backslash : k ≡ 6 → After b inside odd n inside (not odd) n
   after-backslash h =
       let e : b ≡ 0x5C = backslash-class b .0 (sym is ∙ h) in

@@ -82,7 +82,7 @@ tally-less f g (suc m) (suc i) h p q same =
     omega (arith, ap digit (same 0 (λ e. omega arith)), tally-less (λ j. f (suc j)) (λ j. g (suc j)) m i (omega arith) p q (λ j ne. same (suc j) (λ e. ne (omega arith))))
 
 -- with a bit less there are fewer
-pub ones-less : {w i r : ℕ} → w < 2 ^ 64 → i < 64 → bit i w ≡ true → Cleared w i r → ones r < ones w
+ones-less : {w i r : ℕ} → w < 2 ^ 64 → i < 64 → bit i w ≡ true → Cleared w i r → ones r < ones w
 ones-less {w} {i} {r} fw l t c =
     omega (arith, ones-tally w fw, ones-tally r (c .fits), tally-less (λ j. bit j r) (λ j. bit j w) 64 i l (c .off) t (c .other))
 
@@ -179,6 +179,10 @@ module _ {a b n left level : ℕ} (v : Counting a b n left level) where
 
     pub next-on : bit i left ≡ true
     next-on = low .is-on next-lt
+
+    -- without it fewer bits are left
+    pub counting-falls : {rest : ℕ} → Cleared left i rest → ones rest < ones left
+    counting-falls c = ones-less (v .fits) next-lt next-on c
 
     counted-before : v .upto ≤ i
     counted-before = ⊎-elim (λ (l : i < v .upto). absurd (false≢true (sym (v .clear i l) ∙ next-on))) (λ (l : v .upto ≤ i). l) (lt-or-ge i (v .upto))

@@ -17,7 +17,9 @@ const BLOCK: usize = 64;
 // How many bytes are passed one by one before the first block is sorted.
 const HEAD: usize = 32;
 
-// The classes of brackets, quote and backslash.
+// The classes of most bytes, of brackets, quote and backslash.
+const OTHER: u8 = 0;
+
 const OPENING: u8 = 1;
 
 const CLOSING: u8 = 2;
@@ -48,6 +50,9 @@ fn pass_byte(classes: &[u8; 256], b: u8, before: Standing) -> Standing
     let c = class(classes, b);
     let mut after = before;
     after.odd = false;
+    if c == OTHER {
+        return after;
+    }
     if c == BACKSLASH {
         after.odd = !before.odd;
         return after;

@@ -4,7 +4,7 @@ use borrow.Author.Needs.{needs}
 use lib.Bits.{or-lt}
 use lib.Count.{ones}
 use mathlib.Core.Path.{sym, _∙_}
-use Rattle.leap.proofs.Words.{Counting, counting-starts, counting-none, counting-found, counting-opens, counting-closes, next-lt, next-on, ones-less}
+use Rattle.leap.proofs.Words.{Counting, counting-starts, counting-none, counting-found, counting-opens, counting-closes, next-lt, next-on, counting-falls}
 use Rattle.leap.proofs.find_closing.Statement.{statement}
 use Rattle.leap.proofs.find_closing.Tie as tie
 
@@ -24,31 +24,51 @@ cast-i : tie.Need-cast-i Inv-loop μ-loop
 cast-i c = search needs
 
 without-requires : tie.Need-without-requires Inv-loop μ-loop
-without-requires c κs = (next-lt (c .before .before .loop .inv) (c .before .loop-test .taken) (c .lowest .ensures), next-on (c .before .before .loop .inv) (c .before .loop-test .taken) (c .lowest .ensures))
+without-requires c κs =
+    let v = c .before .before .loop .inv in
+    let some = c .before .loop-test .taken in
+    (next-lt v some (c .lowest .ensures), next-on v some (c .lowest .ensures))
 
 has-requires : tie.Need-has-requires Inv-loop μ-loop
-has-requires c κs = next-lt (c .before .before .before .loop .inv) (c .before .before .loop-test .taken) (c .before .lowest .ensures)
+has-requires c κs =
+    next-lt (c .before .before .before .loop .inv) (c .before .before .loop-test .taken) (c .before .lowest .ensures)
 
 add-level : tie.Need-add-level Inv-loop μ-loop
 add-level c = search needs
 
 loop-less : tie.Need-loop-less Inv-loop μ-loop
-loop-less c = ones-less (c .before .before .before .before .before .loop .inv .fits) (next-lt (c .before .before .before .before .before .loop .inv) (c .before .before .before .before .loop-test .taken) (c .before .before .before .lowest .ensures)) (next-on (c .before .before .before .before .before .loop .inv) (c .before .before .before .before .loop-test .taken) (c .before .before .before .lowest .ensures)) (c .before .before .without .ensures)
+loop-less c =
+    let t = c .before .before .before .before in
+    counting-falls (t .before .loop .inv) (t .loop-test .taken) (c .before .before .before .lowest .ensures) (c .before .before .without .ensures)
 
 loop-again : tie.Need-loop-again Inv-loop μ-loop
-loop-again c = counting-opens (c .before .before .before .before .before .loop .inv) (c .before .before .before .before .loop-test .taken) (c .before .before .before .lowest .ensures) (c .before .before .without .ensures) (sym (c .before .has .ensures) ∙ c .if1 .taken)
+loop-again c =
+    let t = c .before .before .before .before in
+    counting-opens (t .before .loop .inv) (t .loop-test .taken) (c .before .before .before .lowest .ensures) (c .before .before .without .ensures)
+    (sym (c .before .has .ensures) ∙ c .if1 .taken)
 
 returns : tie.Need-returns Inv-loop μ-loop
-returns c = counting-found (c .before .before .before .before .before .before .loop .inv) (c .before .before .before .before .before .loop-test .taken) (c .before .before .before .before .lowest .ensures) (sym (c .before .before .has .ensures) ∙ c .before .if1 .left) (c .if2 .taken)
+returns c =
+    let h = c .before .before in
+    let t = h .before .before .before in
+    counting-found (t .before .loop .inv) (t .loop-test .taken) (h .before .before .lowest .ensures)
+    (sym (h .has .ensures) ∙ c .before .if1 .left) (c .if2 .taken)
 
 sub-level : tie.Need-sub-level Inv-loop μ-loop
 sub-level c = search needs
 
 loop-less-2 : tie.Need-loop-less-2 Inv-loop μ-loop
-loop-less-2 c = ones-less (c .before .before .before .before .before .before .loop .inv .fits) (next-lt (c .before .before .before .before .before .before .loop .inv) (c .before .before .before .before .before .loop-test .taken) (c .before .before .before .before .lowest .ensures)) (next-on (c .before .before .before .before .before .before .loop .inv) (c .before .before .before .before .before .loop-test .taken) (c .before .before .before .before .lowest .ensures)) (c .before .before .before .without .ensures)
+loop-less-2 c =
+    let h = c .before .before in
+    let t = h .before .before .before in
+    counting-falls (t .before .loop .inv) (t .loop-test .taken) (h .before .before .lowest .ensures) (h .before .without .ensures)
 
 loop-again-2 : tie.Need-loop-again-2 Inv-loop μ-loop
-loop-again-2 c = counting-closes (c .before .before .before .before .before .before .loop .inv) (c .before .before .before .before .before .loop-test .taken) (c .before .before .before .before .lowest .ensures) (c .before .before .before .without .ensures) (sym (c .before .before .has .ensures) ∙ c .before .if1 .left) (c .if2 .left)
+loop-again-2 c =
+    let h = c .before .before in
+    let t = h .before .before .before in
+    counting-closes (t .before .loop .inv) (t .loop-test .taken) (h .before .before .lowest .ensures) (h .before .without .ensures)
+    (sym (h .has .ensures) ∙ c .before .if1 .left) (c .if2 .left)
 
 returns-2 : tie.Need-returns-2 Inv-loop μ-loop
 returns-2 c = counting-none (c .before .loop .inv) (c .loop-test .left)

@@ -28,24 +28,35 @@ shared-slice-read-pass-byte : tie.Need-shared-slice-read-pass-byte Inv-loop μ-l
 shared-slice-read-pass-byte c = search needs
 
 pass-byte-requires : tie.Need-pass-byte-requires Inv-loop μ-loop
-pass-byte-requires c κs = (c .before .before .before .before .before .before .pre .0, (c .before .before .loop .inv .some, omega (arith, c .before .before .loop .inv .few)))
+pass-byte-requires c κs =
+    let v = c .before .before .loop .inv in
+    (c .before .before .before .before .before .before .pre .0, (v .some, omega (arith, v .few)))
 
 add-i : tie.Need-add-i Inv-loop μ-loop
 add-i c = search needs
 
 returns-2 : tie.Need-returns-2 Inv-loop μ-loop
 unfolding byteAt
-returns-2 c = leads-leaves (tracked-closed (c .before .before .before .before .before .loop .inv) (omega (arith, c .before .before .before .before .loop-test .taken, c .before .before .before .before .before .before .head-end .ensures)) (c .before .before .pass-byte .ensures) (c .if2 .taken))
+returns-2 c =
+    let t = c .before .before .before .before in
+    leads-leaves (tracked-closed (t .before .loop .inv) (omega (arith, t .loop-test .taken, t .before .before .head-end .ensures))
+    (c .before .before .pass-byte .ensures) (c .if2 .taken))
 
 loop-less : tie.Need-loop-less Inv-loop μ-loop
 loop-less c = search needs
 
 loop-again : tie.Need-loop-again Inv-loop μ-loop
 unfolding byteAt
-loop-again c = tracked-byte (c .before .before .before .before .before .loop .inv) (omega (arith, c .before .before .before .before .loop-test .taken, c .before .before .before .before .before .before .head-end .ensures)) (c .before .before .pass-byte .ensures) (c .if2 .left)
+loop-again c =
+    let t = c .before .before .before .before in
+    tracked-byte (t .before .loop .inv) (omega (arith, t .loop-test .taken, t .before .before .head-end .ensures))
+    (c .before .before .pass-byte .ensures) (c .if2 .left)
 
 leave-blocks-requires : tie.Need-leave-blocks-requires Inv-loop μ-loop
-leave-blocks-requires c κs = (c .before .before .before .before .before .pre .1, (c .before .loop .inv .some, omega (arith, c .before .loop .inv .few, c .before .loop .inv .within (omega (arith, c .before .before .before .if1 .left)))))
+leave-blocks-requires c κs =
+    let v = c .before .loop .inv in
+    let start = c .before .before .before in
+    (start .before .before .pre .1, (v .some, omega (arith, v .few, v .within (omega (arith, start .if1 .left)))))
 
 returns-3 : tie.Need-returns-3 Inv-loop μ-loop
 returns-3 c = leads-leaves (then-on (c .before .before .loop .inv) (c .leave-blocks .ensures))

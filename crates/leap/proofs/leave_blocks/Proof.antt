@@ -30,7 +30,10 @@ sort-block-requires : tie.Need-sort-block-requires Inv-loop μ-loop
 sort-block-requires c κs = search needs
 
 pass-block-requires : tie.Need-pass-block-requires Inv-loop μ-loop
-pass-block-requires c κs = ((c .before .before .before .loop .inv .some, omega (arith, c .before .before .before .loop .inv .few, c .before .before .before .before .before .pre .1 .1)), apart (c .before .before .before .loop .inv) (c .sort-block .ensures))
+pass-block-requires c κs =
+    let v = c .before .before .before .loop .inv in
+    let start = c .before .before .before .before .before in
+    ((v .some, omega (arith, v .few, start .pre .1 .1)), apart v (c .sort-block .ensures))
 
 add-result : tie.Need-add-result Inv-loop μ-loop
 add-result c = search needs
@@ -39,13 +42,18 @@ add-result-2 : tie.Need-add-result-2 Inv-loop μ-loop
 add-result-2 c = search needs
 
 returns : tie.Need-returns Inv-loop μ-loop
-returns c = block-found (c .before .before .before .before .before .loop .inv) (c .before .before .sort-block .ensures) (c .before .pass-block .ensures) (c .before .before .before .before .loop-test .taken) (c .if1 .taken)
+returns c =
+    let t = c .before .before .before .before in
+    block-found (t .before .loop .inv) (c .before .before .sort-block .ensures) (c .before .pass-block .ensures) (t .loop-test .taken) (c .if1 .taken)
 
 sub-if2 : tie.Need-sub-if2 Inv-loop μ-loop
 sub-if2 c = search needs
 
 returns-2 : tie.Need-returns-2 Inv-loop μ-loop
-returns-2 c = block-last (c .before .before .before .before .before .before .loop .inv) (c .before .before .before .sort-block .ensures) (c .before .before .pass-block .ensures) (c .before .before .before .before .before .loop-test .taken) (c .before .if1 .left) (c .if2 .taken)
+returns-2 c =
+    let f = c .before .before in
+    let t = f .before .before .before in
+    block-last (t .before .loop .inv) (f .before .sort-block .ensures) (f .pass-block .ensures) (t .loop-test .taken) (c .before .if1 .left) (c .if2 .taken)
 
 add-i : tie.Need-add-i Inv-loop μ-loop
 add-i c = search needs
@@ -54,7 +62,9 @@ loop-less : tie.Need-loop-less Inv-loop μ-loop
 loop-less c = search needs
 
 loop-again : tie.Need-loop-again Inv-loop μ-loop
-loop-again c = block-next (c .before .before .before .before .before .before .loop .inv) (c .before .before .before .sort-block .ensures) (c .before .before .pass-block .ensures) (c .before .if1 .left) (c .if2 .left)
+loop-again c =
+    let f = c .before .before in
+    block-next (f .before .before .before .before .loop .inv) (f .before .sort-block .ensures) (f .pass-block .ensures) (c .before .if1 .left) (c .if2 .left)
 
 returns-3 : tie.Need-returns-3 Inv-loop μ-loop
 returns-3 c = tracked-out (c .before .loop .inv) (c .loop-test .left)

@@ -20,7 +20,11 @@ sub-t9 : tie.Need-sub-t9
 sub-t9 c = search needs
 
 returns-2 : tie.Need-returns-2
-returns-2 c = passed-counted (c .before .before .before .before .fits .opening .fits) (c .before .before .before .before .fits .closing .fits) (c .before .before .before .before .pre .1) (c .count2 .ensures .0) (c .count2 .ensures .1) (c .before .before .count .ensures .0) (c .before .before .count .ensures .1) (c .before .if2 .taken)
+returns-2 c =
+    let start = c .before .before .before .before in
+    let closed = c .before .before .count .ensures in
+    passed-counted (start .fits .opening .fits) (start .fits .closing .fits) (start .pre .1) (c .count2 .ensures .0) (c .count2 .ensures .1)
+    (closed .0) (closed .1) (c .before .if2 .taken)
 
 find-closing-requires : tie.Need-find-closing-requires
 find-closing-requires c κs = search needs
