@@ -1,3 +1,4 @@
+pub mod Small
 pub mod Lister
 pub mod Finder
 pub mod Outcome
