@@ -2,9 +2,9 @@
 use mathlib.Core.Path.{_≡_, refl, sym, ap, _∙_}
 use mathlib.Core.List.{List, [], _∷_, map}
 use mathlib.Core.Bool.{Bool, true, false}
-use Prim.Native.Nat.{ℕ, suc, _+_, _≤_, _<_}
+use Prim.Native.Nat.{ℕ, zero, suc, _+_, _≤_, _<_}
 use native.Mathlib.Omega.{arith}
-use lib.ListN.{length, length-map}
+use lib.ListN.{length, drop, length-map}
 use Rattle.json.specs.Append.{length-text}
 use Rattle.json.specs.Grammar.{Tree, text}
 use Rattle.query.specs.Steps.{Step}
@@ -14,6 +14,7 @@ use Rattle.select.specs.PeakIs.{most-bound}
 use Rattle.select.specs.Reach.{Reach, ReachFrom, start, down, nodes-are}
 use Rattle.select.specs.SpansAre.{firstBytes, spans-rise}
 use Rattle.select.specs.Visits.{Visit, Way, nodes}
+use Rattle.automaton.specs.TallyIs.{stopAt}
 use Rattle.select.specs.Ways.{Span, sameMarks, frameIf, frames, mostFrames, spans, peak}
 
 rises-few : (a e : ℕ) (xs : List ℕ) → Rises a xs e → a + length xs ≤ e
@@ -59,3 +60,18 @@ peak-few t q =
     (λ v m.
     let h = way-short (nodes-are t (v .state) (v .node) .0 m) in
     omega (arith, frames-few q (v .state), h .0, h .1, first-before-end (v .node), root-ends t))
+
+rises-ends : (a e : ℕ) (xs : List ℕ) → Rises a xs e → a ≤ e
+rises-ends a e [] r = r
+rises-ends a e (x ∷ xs) r = omega (arith, r .0, rises-ends (suc x) e xs (r .1))
+
+stop-within : (a e k : ℕ) (ss : List Span) → Rises a (firstBytes ss) e → stopAt (drop k ss) ≤ e
+unfolding stopAt
+stop-within a e zero [] r = omega arith
+stop-within a e (suc k) [] r = omega arith
+stop-within a e zero (s ∷ ss) r = omega (arith, rises-ends (suc (s .first)) e (firstBytes ss) (r .1))
+stop-within a e (suc k) (s ∷ ss) r = stop-within (suc (s .first)) e k ss (r .1)
+
+-- a node left over begins in the record
+pub stop-few : (t : Tree) (q : List Step) (k : ℕ) → stopAt (drop k (spans t q)) ≤ length (text t)
+stop-few t q k = omega (arith, stop-within (root t .first) (endOf (root t)) k (spans t q) (spans-rise t q), root-ends t)
