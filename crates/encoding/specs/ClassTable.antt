@@ -5,7 +5,7 @@ use mathlib.Core.Bool.{Bool}
 use Prim.Native.Nat.{ℕ, _<_}
 use lib.Dec.{T, eqb, eqb→eq}
 use lib.ListN.{length, getD}
-use Rattle.encoding.specs.Below.{allBelow, at-each}
+use Rattle.bits.specs.Truth.{allBelow, all-at}
 use Rattle.encoding.specs.Class.{classOf}
 
 -- entry b is the class of byte b
@@ -23,5 +23,5 @@ unfolding rightAt
 class-table table n t =
     record {
       size = n;
-      entry = λ b h. eqb→eq (getD table b 0) (classOf b) (at-each 256 (rightAt table) t b h);
+      entry = λ b h. eqb→eq (getD table b 0) (classOf b) (all-at 256 (rightAt table) t b h);
     }

@@ -1,7 +1,7 @@
 -- `encoding::classes` meets its contract: the rule of the table is a test at each of its 256 entries, which antt computes.
 -- Assumes nothing.
 use mathlib.Core.Path.{refl}
-use Rattle.encoding.specs.Below.{allBelow}
+use Rattle.bits.specs.Truth.{allBelow}
 use Rattle.encoding.specs.Class.{classOf}
 use Rattle.encoding.specs.ClassTable.{rightAt, class-table}
 use Rattle.encoding.proofs.classes.Statement.{statement}
