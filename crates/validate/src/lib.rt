@@ -1,0 +1,2 @@
+// The check of a record: grounds 4 to 6 in one pass.
+mod numbers;
