@@ -1,7 +1,7 @@
 -- Numbers (RFC 8259 §6) as the record grammar's machine takes them.
 use mathlib.Core.Path.{_≡_, refl, ap, sym, _∙_}
 use mathlib.Core.List.{List, [], _∷_, _++_, append-assoc}
-use mathlib.Core.Bool.{Bool, true, false}
+use mathlib.Core.Bool.{Bool, true, false, _&&_}
 use mathlib.Core.Logic.{_⊎_, inl, inr}
 use mathlib.Core.Option.{Option, some, none}
 use Prim.Native.Nat.{ℕ, _+_, _≤_, _<_}
@@ -9,6 +9,9 @@ use native.Mathlib.Omega.{arith}
 use lib.Dec.{leb}
 use lib.ListN.{length, getD}
 use borrow.Author.Tests.{leb-true, leb-false}
+use Rattle.encoding.specs.BytesLaws.{beneath, beyond}
+use Rattle.encoding.specs.BytesLaws as BytesLaws
+use Rattle.swar.specs.Run.{Passed, Run}
 use Rattle.json.specs.Grammar.{Kind, array}
 use Rattle.json.specs.Room.{Room, endless}
 use Rattle.json.specs.Machine.{Ctl, item, after, afterMinus, afterZero, inInt, afterPoint, inFrac, afterE, afterSign, inExp, Stack, top, at, dead, Rule, one, span, exponentRules, afterRules, rules, step, final}
@@ -16,7 +19,11 @@ use Rattle.json.specs.Steps.{Picks, inside, past, nowhere, landing, step-range,
 use Rattle.validate.specs.Among.{Among, this, other, no-more, AmongAt, byte, nothing, each, among-picks, among-past}
 use Rattle.json.specs.Led.{Led, led-here, led-go, led-die, led-end, led-over, led-same, led-skip, led-on}
 
--- b is no digit
+-- a digit
+unfoldable pub digit : ℕ → Bool
+digit b = leb 0x30 b && leb b 0x39
+
+-- a byte that is none
 pub data NoDigit (b : ℕ) : Type 0 where
   under : b < 0x30 → NoDigit b
   over : 0x39 < b → NoDigit b
@@ -29,40 +36,29 @@ digit-or-not b = by (leb 0x30 b) refl (leb b 0x39) refl
     by true e false f = inl (over (leb-false b 0x39 f))
     by true e true f = inr (leb-true 0x30 b e, leb-true b 0x39 f)
 
--- digits stand from place i up to place r
-pub record Passed (s : List ℕ) (i r : ℕ) : Type 0 where
-  pub forward : i ≤ r
-  pub within : r ≤ length s
-  pub low : (j : ℕ) → i ≤ j → j < r → 0x30 ≤ getD s j 0
-  pub high : (j : ℕ) → i ≤ j → j < r → getD s j 0 ≤ 0x39
+module _ (b : ℕ) where
+  pub digit-holds : 0x30 ≤ b → b ≤ 0x39 → digit b ≡ true
+  unfolding digit
+  digit-holds l h = BytesLaws.inside 0x30 0x39 b l h
 
--- and none at r
-pub record Digits (s : List ℕ) (i r : ℕ) : Type 0 where
-  pub passed : Passed s i r
-  pub stop : r < length s → NoDigit (getD s r 0)
+  pub digit-fails : NoDigit b → digit b ≡ false
+  unfolding digit
+  digit-fails (under h) = beneath 0x30 0x39 b h
+  digit-fails (over h) = beyond 0x30 0x39 b h
 
-pub passed-none : (s : List ℕ) (i : ℕ) → i ≤ length s → Passed s i i
-passed-none s i h = record { forward = omega arith; within = h; low = λ j p q. absurd (omega arith); high = λ j p q. absurd (omega arith) }
+  pub is-digit : digit b ≡ true → (0x30 ≤ b) × (b ≤ 0x39)
+  is-digit e = by (digit-or-not b)
+    where
+      by : NoDigit b ⊎ ((0x30 ≤ b) × (b ≤ 0x39)) → (0x30 ≤ b) × (b ≤ 0x39)
+      by (inl n) = let z : true ≡ false = sym e ∙ digit-fails n in let y : _≡_ {A = ℕ} 0 1 = cc in absurd (omega arith)
+      by (inr d) = d
 
-pub passed-more : {s : List ℕ} {i r : ℕ} → Passed s i r → r < length s → 0x30 ≤ getD s r 0 → getD s r 0 ≤ 0x39 → Passed s i (r + 1)
-passed-more {s} {i} {r} p h l u =
-    record {
-      forward = omega (arith, p .forward);
-      within = omega arith;
-      low = λ j x y. below (λ n. 0x30 ≤ getD s n 0) (p .low) l j x y;
-      high = λ j x y. below (λ n. getD s n 0 ≤ 0x39) (p .high) u j x y;
-    }
-  where
-    below : (P : ℕ → Type 0) → ((j : ℕ) → i ≤ j → j < r → P j) → P r → (j : ℕ) → i ≤ j → j < r + 1 → P j
-    below P f x j y z = go (leb r j) refl
-      where
-        go : (b : Bool) → leb r j ≡ b → P j
-        go false t = f j y (leb-false r j t)
-        go true t = let e : j ≡ r = omega (arith, leb-true r j t) in rw e x
-
-pub passed-rest : {s : List ℕ} {i j r : ℕ} → Passed s i r → i ≤ j → j ≤ r → Passed s j r
-passed-rest p h l =
-    record { forward = l; within = p .within; low = λ n x y. p .low n (omega arith) y; high = λ n x y. p .high n (omega arith) y }
+  pub not-digit : digit b ≡ false → NoDigit b
+  not-digit e = by (digit-or-not b)
+    where
+      by : NoDigit b ⊎ ((0x30 ≤ b) × (b ≤ 0x39)) → NoDigit b
+      by (inl n) = n
+      by (inr d) = let z : true ≡ false = sym (digit-holds (d .0) (d .1)) ∙ e in let y : _≡_ {A = ℕ} 0 1 = cc in absurd (omega arith)
 
 -- the control states in which digits keep the machine
 pub data Digit : Ctl → Type 0 where
@@ -76,8 +72,10 @@ digit-step int k ρ b l h = step-range inInt k ρ 0x30 0x39 b (at inInt k ρ) re
 digit-step frac k ρ b l h = step-range inFrac k ρ 0x30 0x39 b (at inFrac k ρ) refl l h
 digit-step exp k ρ b l h = step-range inExp k ρ 0x30 0x39 b (at inExp k ρ) refl l h
 
-pub led-digits : {s : List ℕ} {a : ℕ} {c d : Ctl} {i r : ℕ} → Digit d → Led s a c d true i → Passed s i r → Led s a c d true r
-led-digits {r = r} w p g = led-skip p r (g .forward) (g .within) (λ k ρ j x y. digit-step w k ρ _ (g .low j x y) (g .high j x y))
+pub led-digits : {s : List ℕ} {a : ℕ} {c d : Ctl} {i r : ℕ} → Digit d → Led s a c d true i → Passed digit s i r → Led s a c d true r
+led-digits {s} {r = r} w p g =
+    led-skip p r (g .forward) (g .within)
+    (λ k ρ j x y. let e = is-digit (getD s j 0) (g .each j x y) in digit-step w k ρ (getD s j 0) (e .0) (e .1))
 
 -- none of the rules has the byte at place i
 abbrev pub Unpicked : List Rule → List ℕ → ℕ → Type 0
@@ -144,30 +142,31 @@ wanted-keeps point = frac
 wanted-keeps sign = exp
 
 -- digits, one at least
-module _ {s : List ℕ} {a : ℕ} {c₀ c d : Ctl} {i r : ℕ} (w : WantsDigit c d) (p : Led s a c₀ c true i) (g : Digits s i r) where
+module _ {s : List ℕ} {a : ℕ} {c₀ c d : Ctl} {i r : ℕ} (w : WantsDigit c d) (p : Led s a c₀ c true i) (g : Run digit s i r) where
   pub digits-none : (d′ : Ctl) → r ≡ i → Led s a c₀ d′ false i
   digits-none d′ q = by (leb (length s) i) refl
     where
       by : (x : Bool) → leb (length s) i ≡ x → Led s a c₀ d′ false i
       by true t = led-end p d′ (leb-true (length s) i t) (wanted-final w)
-      by false t = let h = leb-false (length s) i t in led-die p d′ h (λ k. wanted-dead w k _ (rw q at (g .stop) h))
+      by false t = let h = leb-false (length s) i t in led-die p d′ h (λ k. wanted-dead w k _ (not-digit _ (rw q at (g .stop) h)))
 
   pub digits-some : (r ≡ i → ⊥) → Led s a c₀ d true r
   digits-some q =
       let b = g .passed in
       let l : i < r = omega (arith, b .forward) in
+      let e = is-digit (getD s i 0) (b .each i (omega arith) l) in
       led-digits (wanted-keeps w)
-      (led-go p d (omega (arith, b .within)) (λ k ρ. wanted-step w k ρ _ (b .low i (omega arith) l) (b .high i (omega arith) l)))
-      (passed-rest b (omega arith) (omega arith))
+      (led-go p d (omega (arith, b .within)) (λ k ρ. wanted-step w k ρ (getD s i 0) (e .0) (e .1)))
+      record { forward = omega arith; within = b .within; each = λ j x y. b .each j (omega arith) y }
 
 -- an exponent, from its digits back to its letter
-module _ {s : List ℕ} {a : ℕ} {c₀ : Ctl} {i r : ℕ} (p : Led s a c₀ afterSign true i) (g : Digits s i r) where
+module _ {s : List ℕ} {a : ℕ} {c₀ : Ctl} {i r : ℕ} (p : Led s a c₀ afterSign true i) (g : Run digit s i r) where
   pub power-none : r ≡ i → Led s a c₀ after false i
   power-none q = digits-none sign p g after q
 
   pub power-some : (r ≡ i → ⊥) → Led s a c₀ after true r
   power-some q =
-      led-finish (digits-some sign p g q) (span 0x30 0x39 inExp ∷ []) (λ k. refl) refl (λ h. unpicked-digit inExp (g .stop h))
+      led-finish (digits-some sign p g q) (span 0x30 0x39 inExp ∷ []) (λ k. refl) refl (λ h. unpicked-digit inExp (not-digit _ (g .stop h)))
 
 abbrev signs : List ℕ
 signs = 0x2B ∷ 0x2D ∷ []
@@ -267,7 +266,7 @@ module _ {s : List ℕ} {i : ℕ} where
       point-led : {c : Ctl} {rs : List Rule} → Whole c rs → Led s i c afterPoint true (i + 1)
       point-led {c} w = led-go (led-here s i c (omega arith)) afterPoint h (λ k ρ. point-step e w k ρ)
 
-      module _ {r : ℕ} (g : Digits s (i + 1) r) where
+      module _ {r : ℕ} (g : Run digit s (i + 1) r) where
         pub fraction-empty : r ≡ i + 1 → Fraction s i false (i + 1)
         fraction-empty q = record { led = λ {c} {rs} w u. digits-none point (point-led w) g after q }
 
@@ -275,7 +274,7 @@ module _ {s : List ℕ} {i : ℕ} where
         fraction-some q p =
             record {
               led = λ {c} {rs} w u.
-                  led-on (digits-some point (point-led w) g q) (p .led frac (λ l. unpicked-digit inFrac (g .stop l)));
+                  led-on (digits-some point (point-led w) g q) (p .led frac (λ l. unpicked-digit inFrac (not-digit _ (g .stop l))));
             }
 
 -- a number that has no sign, or what follows the sign
@@ -298,11 +297,11 @@ module _ {s : List ℕ} {i : ℕ} where
     number-zero e p = led-on (led-go minus-here afterZero h (λ k ρ. rw e refl)) (p .led zero (λ l. nowhere))
 
     pub number-some :
-        (getD s i 0 ≡ 0x30 → ⊥) → 0x30 ≤ getD s i 0 → getD s i 0 ≤ 0x39 → {r : ℕ} → Digits s (i + 1) r → {ok : Bool} {t : ℕ} → Fraction s r ok t →
+        (getD s i 0 ≡ 0x30 → ⊥) → 0x30 ≤ getD s i 0 → getD s i 0 ≤ 0x39 → {r : ℕ} → Run digit s (i + 1) r → {ok : Bool} {t : ℕ} → Fraction s r ok t →
         Led s i afterMinus after ok t
     unfolding landing
     number-some n l u g p =
         led-on
         (led-digits int
         (led-go minus-here inInt h (λ k ρ. step-range afterMinus k ρ 0x31 0x39 (getD s i 0) (at inInt k ρ) refl (omega (arith, n)) u)) (g .passed))
-        (p .led int (λ z. unpicked-digit inInt (g .stop z)))
+        (p .led int (λ z. unpicked-digit inInt (not-digit _ (g .stop z))))

@@ -2,10 +2,11 @@
 ghost use Prim.Native.Nat.{_≤_};
 ghost use mathlib.Core.List.{[], _∷_};
 ghost use lib.ListN.{length};
+ghost use Rattle.swar.specs.Run.{Run};
 ghost use Rattle.json.specs.Machine.{after, afterMinus, afterE, afterSign};
 ghost use Rattle.json.specs.Led.{Led};
 ghost use Rattle.validate.specs.Among.{Among, AmongAt};
-ghost use Rattle.validate.specs.Numbers.{Digits, Ending, Fraction};
+ghost use Rattle.validate.specs.Numbers.{digit, Ending, Fraction};
 use encoding::Scan;
 
 const POINT: u8 = 0x2E;
@@ -25,7 +26,7 @@ const NINE: u8 = 0x39;
 // The place after the digits that stand from `from` on.
 fn digits_end(s: &[u8], from: usize) -> usize
     requires { ⌜ from ≤ length (now s) ⌝ }
-    ensures { λ r. ⌜ Digits (now (s .entry)) from r ⌝ }
+    ensures { λ r. ⌜ Run digit (now (s .entry)) from r ⌝ }
 {
     let mut i = from;
     while i < s.len() {
