@@ -1,2 +1,4 @@
 pub mod Among
 pub mod Numbers
+pub mod Strings
+pub mod Words
