@@ -13,6 +13,10 @@ use Rattle.json.specs.Machine.{Ctl, Stack, top, at, Rule, one, lowest, highest,
 use Rattle.json.specs.Steps.{Picks, inside, past, nowhere, picked, step-by}
 use Rattle.json.specs.Led.{Led, led-go, led-die, led-end}
 
+-- what is refused is not taken
+pub never : {A : Type 0} → false ≡ true → A
+never e = let z : _≡_ {A = ℕ} 0 1 = cc in absurd (omega arith)
+
 -- whether b is among the bytes
 pub data Among : List ℕ → ℕ → Bool → Type 0 where
   this : {b n : ℕ} {ns : List ℕ} → b ≡ n → Among (n ∷ ns) b true
@@ -29,7 +33,7 @@ abbrev pub each : List ℕ → Ctl → List Rule → List Rule
 each [] d rs = rs
 each (n ∷ ns) d rs = one n d ∷ each ns d rs
 
-missed : {b n : ℕ} → (b ≡ n → ⊥) → n ≤ b → b ≤ n → ⊥
+pub missed : {b n : ℕ} → (b ≡ n → ⊥) → n ≤ b → b ≤ n → ⊥
 missed f p q = f (omega arith)
 
 -- one of them

@@ -16,7 +16,7 @@ use Rattle.json.specs.Grammar.{Kind, array}
 use Rattle.json.specs.Room.{Room, endless}
 use Rattle.json.specs.Machine.{Ctl, item, after, afterMinus, afterZero, inInt, afterPoint, inFrac, afterE, afterSign, inExp, Stack, top, at, dead, Rule, one, span, exponentRules, afterRules, rules, step, final}
 use Rattle.json.specs.Steps.{Picks, inside, past, nowhere, landing, step-range, step-by, step-over}
-use Rattle.validate.specs.Among.{Among, this, other, no-more, AmongAt, byte, nothing, each, among-picks, among-past}
+use Rattle.validate.specs.Among.{never, Among, this, other, no-more, AmongAt, byte, nothing, missed, each, among-picks, among-past}
 use Rattle.json.specs.Led.{Led, led-here, led-go, led-die, led-end, led-over, led-same, led-skip, led-on}
 
 -- a digit
@@ -105,6 +105,12 @@ pub record Fraction (s : List ℕ) (i : ℕ) (ok : Bool) (r : ℕ) : Type 0 wher
 no-digit : {b : ℕ} → NoDigit b → 0x30 ≤ b → b ≤ 0x39 → ⊥
 no-digit (under h) p q = omega arith
 no-digit (over h) p q = omega arith
+
+pub no-nonzero : {b : ℕ} → NoDigit b → 0x31 ≤ b → b ≤ 0x39 → ⊥
+no-nonzero n p q = no-digit n (omega arith) q
+
+pub no-zero : {b : ℕ} → NoDigit b → b ≡ 0x30 → ⊥
+no-zero n e = no-digit n (omega arith) (omega arith)
 
 unpicked-digit : {b : ℕ} (r : Ctl) → NoDigit b → Picks (span 0x30 0x39 r ∷ []) b none
 unpicked-digit r n = past (no-digit n) nowhere
@@ -277,31 +283,42 @@ module _ {s : List ℕ} {i : ℕ} where
                   led-on (digits-some point (point-led w) g q) (p .led frac (λ l. unpicked-digit inFrac (not-digit _ (g .stop l))));
             }
 
--- a number that has no sign, or what follows the sign
+-- a number that has no sign, or what follows the sign, is read from place i on
+pub record Number (s : List ℕ) (i : ℕ) (ok : Bool) (r : ℕ) : Type 0 where
+  pub moved : ok ≡ true → i < r
+  pub led : Led s i afterMinus after ok r
+
+refused-number : {s : List ℕ} {i : ℕ} → Led s i afterMinus after false i → Number s i false i
+refused-number p = record { moved = never; led = p }
+
 module _ {s : List ℕ} {i : ℕ} where
-  pub number-none : i ≤ length s → length s ≤ i → Led s i afterMinus after false i
-  number-none l h = led-end (led-here s i afterMinus l) after h refl
+  pub number-none : i ≤ length s → length s ≤ i → Number s i false i
+  number-none l h = refused-number (led-end (led-here s i afterMinus l) after h refl)
 
   module _ (h : i < length s) where
     minus-here : Led s i afterMinus afterMinus true i
     minus-here = led-here s i afterMinus (omega arith)
 
-    pub number-wrong : NoDigit (getD s i 0) → Led s i afterMinus after false i
+    pub number-wrong : NoDigit (getD s i 0) → Number s i false i
     number-wrong n =
-        led-die minus-here after h
-        (λ k. step-by afterMinus k endless {o = none}
-        (past (λ x y. no-digit n (omega arith) y) (past (λ x y. no-digit n x (omega arith)) nowhere)))
+        refused-number
+        (led-die minus-here after h
+        (λ k. step-by afterMinus k endless {o = none} (past (no-nonzero n) (past (missed (no-zero n)) nowhere))))
 
-    pub number-zero : getD s i 0 ≡ 0x30 → {ok : Bool} {r : ℕ} → Fraction s (i + 1) ok r → Led s i afterMinus after ok r
+    pub number-zero : getD s i 0 ≡ 0x30 → {ok : Bool} {r : ℕ} → Fraction s (i + 1) ok r → Number s i ok r
     unfolding step
-    number-zero e p = led-on (led-go minus-here afterZero h (λ k ρ. rw e refl)) (p .led zero (λ l. nowhere))
+    number-zero e p =
+        let rest = p .led zero (λ l. nowhere) in
+        record { moved = λ x. omega (arith, rest .from); led = led-on (led-go minus-here afterZero h (λ k ρ. rw e refl)) rest }
 
     pub number-some :
-        (getD s i 0 ≡ 0x30 → ⊥) → 0x30 ≤ getD s i 0 → getD s i 0 ≤ 0x39 → {r : ℕ} → Run digit s (i + 1) r → {ok : Bool} {t : ℕ} → Fraction s r ok t →
-        Led s i afterMinus after ok t
+        (getD s i 0 ≡ 0x30 → ⊥) → 0x30 ≤ getD s i 0 → getD s i 0 ≤ 0x39 → {r : ℕ} → Run digit s (i + 1) r → {ok : Bool} {t : ℕ} →
+        Fraction s r ok t → Number s i ok t
     unfolding landing
     number-some n l u g p =
-        led-on
-        (led-digits int
-        (led-go minus-here inInt h (λ k ρ. step-range afterMinus k ρ 0x31 0x39 (getD s i 0) (at inInt k ρ) refl (omega (arith, n)) u)) (g .passed))
-        (p .led int (λ z. unpicked-digit inInt (not-digit _ (g .stop z))))
+        let rest = p .led int (λ z. unpicked-digit inInt (not-digit _ (g .stop z))) in
+        let first = led-go minus-here inInt h (λ k ρ. step-range afterMinus k ρ 0x31 0x39 (getD s i 0) (at inInt k ρ) refl (omega (arith, n)) u) in
+        record {
+          moved = λ x. omega (arith, g .passed .forward, rest .from);
+          led = led-on (led-digits int first (g .passed)) rest;
+        }

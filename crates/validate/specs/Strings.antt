@@ -18,7 +18,7 @@ use Rattle.json.specs.Room.{Room, endless}
 use Rattle.json.specs.Machine.{Ctl, inString, escaping, hexDue, tailDue, anyTail, afterE0, afterED, afterF0, afterF4, closed, Stack, State, at, dead, Rule, one, span, hexRules, rules, step, final}
 use Rattle.json.specs.Steps.{Picks, inside, past, nowhere, landing, step-range, step-by}
 use Rattle.json.specs.Led.{Led, led-here, led-go, led-die, led-end, led-skip, led-on, led-dead}
-use Rattle.validate.specs.Among.{Among, among-step, among-past, topped, over-all}
+use Rattle.validate.specs.Among.{never, Among, among-step, among-past, topped, over-all}
 
 -- the letters that stand for one character after a backslash
 abbrev pub escapeLetters : List ℕ
@@ -222,7 +222,7 @@ module _ {s : List ℕ} {i : ℕ} (h : i < length s) where
       NotPlain (getD s i 0) → (getD s i 0 ≡ 0x22 → ⊥) → getD s i 0 < 0x80 → (getD s i 0 ≡ 0x5C → ⊥) → Character s i false i
   wrong-character x q l n =
       record {
-        moved = λ e. let z : _≡_ {A = ℕ} 0 1 = cc in absurd (omega arith);
+        moved = never;
         led = λ f. led-die (led-here s i (inString f) (omega arith)) (inString f) h (λ k. control-dead f k endless (by x));
       }
     where

@@ -3,10 +3,10 @@ ghost use Prim.Native.Nat.{_≤_};
 ghost use mathlib.Core.List.{[], _∷_};
 ghost use lib.ListN.{length};
 ghost use Rattle.swar.specs.Run.{Run};
-ghost use Rattle.json.specs.Machine.{after, afterMinus, afterE, afterSign};
+ghost use Rattle.json.specs.Machine.{after, afterE, afterSign};
 ghost use Rattle.json.specs.Led.{Led};
 ghost use Rattle.validate.specs.Among.{Among, AmongAt};
-ghost use Rattle.validate.specs.Numbers.{digit, Ending, Fraction};
+ghost use Rattle.validate.specs.Numbers.{digit, Ending, Fraction, Number};
 use encoding::Scan;
 
 const POINT: u8 = 0x2E;
@@ -132,7 +132,7 @@ fn fraction_end(s: &[u8], at: usize) -> Scan
 // Reads a number that has no sign, or what follows its sign.
 pub fn number_end(s: &[u8], at: usize) -> Scan
     requires { ⌜ at ≤ length (now s) ⌝ }
-    ensures { λ r. ⌜ Led (now (s .entry)) at afterMinus after (r .ok) (r .at) ⌝ }
+    ensures { λ r. ⌜ Number (now (s .entry)) at (r .ok) (r .at) ⌝ }
 {
     if at >= s.len() {
         return Scan { ok: false, at };
