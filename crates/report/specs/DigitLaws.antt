@@ -1,12 +1,12 @@
 -- Digits put one by one, the last one first.
-use mathlib.Core.Path.{_≡_, refl, ap, sym, _∙_}
-use mathlib.Core.List.{List, [], _∷_, _++_}
+use mathlib.Core.Path.{_≡_, ap, sym}
+use mathlib.Core.List.{List}
 use Prim.Native.Nat.{ℕ, _+_, _-_, _/_, _%_, _≤_, _<_}
 use native.Mathlib.Omega.{arith}
 use lib.ListN.{length, set}
 use Rattle.report.specs.Decimal.{digit, decimal}
 use Rattle.report.specs.DecimalLaws.{decimal-small, decimal-more, decimal-longer}
-use Rattle.report.specs.Put.{put, Room}
+use Rattle.report.specs.Put.{put}
 use Rattle.report.specs.PutLaws.{put-one, put-last}
 
 module _ (n at end : ℕ) (b : List ℕ) (stands : end ≡ at + length (decimal n)) (room : end ≤ length b) where

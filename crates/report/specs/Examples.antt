@@ -1,7 +1,8 @@
 -- What `picklist` prints on some inputs, by computing: the example of document 01, both refusals, and inputs without a line feed.
 use mathlib.Core.Path.{_≡_, refl}
-use mathlib.Core.List.{List, [], _∷_, map}
-use Prim.Native.Nat.{ℕ}
+use mathlib.Core.List.{List, [], _∷_, _++_, map}
+use Prim.Native.Nat.{ℕ, zero, suc}
+use lib.ListN.{take}
 use Rattle.encoding.specs.Ascii.{ascii}
 use Rattle.report.specs.Output.{picklistOutput}
 
@@ -27,3 +28,19 @@ table =
 pub table-holds : map (λ (r : Row). picklistOutput (r .input)) table ≡ map (λ (r : Row). r .output) table
 unfolding picklistOutput
 table-holds = refl
+
+-- an array of n zeros and one more, and a query for its elements: 256 nodes fit the list, and 257 do not
+abbrev zeros : ℕ → List ℕ
+zeros zero = ascii "0]"
+zeros (suc n) = ascii "0," ++ zeros n
+
+abbrev elements : ℕ → List ℕ
+elements n = ascii "$.*\n[" ++ zeros n
+
+pub list-exact : take 24 (picklistOutput (elements 255)) ≡ ascii "matches 256\n1 1 2\n2 3 4\n"
+unfolding picklistOutput
+list-exact = refl
+
+pub list-short : picklistOutput (elements 256) ≡ ascii "refused 7 513\n"
+unfolding picklistOutput
+list-short = refl

@@ -8,3 +8,6 @@ pub mod DigitLaws
 pub mod SplitLaws
 pub mod OutputLaws
 pub mod SizeLaws
+pub mod AnswerLaws
+pub mod OutputSize
+pub mod PrintedNodes

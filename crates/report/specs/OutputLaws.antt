@@ -1,10 +1,9 @@
 -- What is printed, taken apart into the pieces that are written one after the other.
 use mathlib.Core.Path.{_≡_, refl, ap, sym, _∙_}
-use mathlib.Core.List.{List, [], _∷_, _++_, append-assoc}
-use Prim.Native.Nat.{ℕ, zero, suc, _+_, _-_, _*_, _≤_, _<_}
+use mathlib.Core.List.{List, [], _∷_, _++_}
+use Prim.Native.Nat.{ℕ, zero, suc, _+_, _-_, _≤_, _<_}
 use native.Mathlib.Nat.{add-zero}
 use native.Mathlib.Omega.{arith}
-use lib.ListN.{getD}
 use lib.Seq.{append-snoc}
 use Rattle.encoding.specs.Ascii.{ascii}
 use Rattle.report.specs.Decimal.{decimal}
@@ -86,26 +85,26 @@ unfolding pairLines
 lines-done i n l h = let e : n - i ≡ 0 = omega arith in rw e
 
 -- what is left at pair i completes the text
-pub record Left (i n : ℕ) (l text : List ℕ) (at : ℕ) (before : List ℕ) (end : ℕ) (now : List ℕ) : Type 0 where
-  pub room : Room (linesFrom i n l) end now
-  pub completes : (after : List ℕ) (last : ℕ) → Written (linesFrom i n l) end now after last → Written text at before after last
+pub record Left (i n : ℕ) (l text : List ℕ) (at : ℕ) (before : List ℕ) (end : ℕ) (buffer : List ℕ) : Type 0 where
+  pub room : Room (linesFrom i n l) end buffer
+  pub completes : (after : List ℕ) (last : ℕ) → Written (linesFrom i n l) end buffer after last → Written text at before after last
 
-module _ {i n : ℕ} {l text : List ℕ} {at : ℕ} {before : List ℕ} {end : ℕ} {now : List ℕ} where
-  pub left-fits : i < n → Left i n l text at before end now → Room (pairLine i l) end now
-  left-fits h left = room-first (pairLine i l) (linesFrom (i + 1) n l) end now (rw (lines-next i n l h) at (left .room))
+module _ {i n : ℕ} {l text : List ℕ} {at : ℕ} {before : List ℕ} {end : ℕ} {buffer : List ℕ} where
+  pub left-fits : i < n → Left i n l text at before end buffer → Room (pairLine i l) end buffer
+  left-fits h left = room-first (pairLine i l) (linesFrom (i + 1) n l) end buffer (rw (lines-next i n l h) at (left .room))
 
   pub left-next :
-      {end′ : ℕ} {now′ : List ℕ} → i < n → Left i n l text at before end now → Written (pairLine i l) end now now′ end′ →
-      Left (i + 1) n l text at before end′ now′
+      {end′ : ℕ} {buffer′ : List ℕ} → i < n → Left i n l text at before end buffer → Written (pairLine i l) end buffer buffer′ end′ →
+      Left (i + 1) n l text at before end′ buffer′
   left-next h left one =
-      let whole : Room (pairLine i l ++ linesFrom (i + 1) n l) end now = rw (lines-next i n l h) at (left .room) in
+      let whole : Room (pairLine i l ++ linesFrom (i + 1) n l) end buffer = rw (lines-next i n l h) at (left .room) in
       record {
         room = room-after (linesFrom (i + 1) n l) one whole;
         completes = λ after last w. left .completes after last (rw (lines-next i n l h) (written-both one w whole));
       }
 
-  pub left-done : n ≤ i → Left i n l text at before end now → Written text at before now end
-  left-done h left = left .completes now end (rw (lines-done i n l h) (record { end-is = sym (add-zero end); after-is = sym (put-none end now) }))
+  pub left-done : n ≤ i → Left i n l text at before end buffer → Written text at before buffer end
+  left-done h left = left .completes buffer end (rw (lines-done i n l h) (record { end-is = sym (add-zero end); after-is = sym (put-none end buffer) }))
 
 pub left-all : (n : ℕ) (l : List ℕ) (at : ℕ) (before : List ℕ) → Room (pairLines 0 n l) at before → Left 0 n l (pairLines 0 n l) at before at before
 left-all n l at before room =

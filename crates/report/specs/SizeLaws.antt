@@ -1,6 +1,6 @@
 -- How long what is printed can be: a line of a pair is its three numbers and three bytes.
-use mathlib.Core.Path.{_≡_, refl, ap, sym, _∙_}
-use mathlib.Core.List.{List, [], _∷_, _++_}
+use mathlib.Core.Path.{_≡_, _∙_}
+use mathlib.Core.List.{List, [], _∷_}
 use Prim.Native.Nat.{ℕ, zero, suc, _+_, _*_, _^_, _≤_, _<_}
 use native.Mathlib.Nat.{suc-mul}
 use native.Mathlib.Omega.{arith}
@@ -8,7 +8,7 @@ use lib.ListN.{length, getD, length-append}
 use Rattle.encoding.specs.Ascii.{ascii}
 use Rattle.report.specs.Decimal.{decimal}
 use Rattle.report.specs.DecimalLaws.{decimal-length, decimal-word}
-use Rattle.report.specs.Output.{line, pairLine, pairLines, matches, refusal, report}
+use Rattle.report.specs.Output.{line, pairLine, pairLines, matches, refusal}
 
 -- the length of a line
 line-length : (f : List ℕ) → length (line f []) ≡ length f + 1
@@ -19,7 +19,7 @@ line-longer : (f g : List ℕ) (gs : List (List ℕ)) → length (line f (g ∷ 
 unfolding line
 line-longer f g gs = length-append f (0x20 ∷ line g gs) ∙ omega arith
 
-three-length : (f g h : List ℕ) → length (line f (g ∷ h ∷ [])) ≡ length f + length g + length h + 3
+pub three-length : (f g h : List ℕ) → length (line f (g ∷ h ∷ [])) ≡ length f + length g + length h + 3
 three-length f g h = omega (arith, line-longer f g (h ∷ []), line-longer g h [], line-length h)
 
 -- a refusal of two numbers of 32 bits

@@ -2,7 +2,7 @@
 use mathlib.Core.Path.{_≡_, refl, ap, sym, _∙_}
 use mathlib.Core.Bool.{Bool, true, false}
 use mathlib.Core.List.{List, [], _∷_, _++_, List·Memᴰ, List·Memᴰ·head, List·Memᴰ·tail}
-use Prim.Native.Nat.{ℕ, zero, suc, _+_, _-_, _≤_, _<_}
+use Prim.Native.Nat.{ℕ, suc, _+_, _-_, _≤_, _<_}
 use native.Mathlib.Numerals.{add-one}
 use native.Mathlib.Omega.{arith}
 use borrow.Author.Tests.{eq-eqb, ne-eqb, eqb-true, eqb-false}
@@ -85,6 +85,9 @@ record-part (b ∷ s) = go (eqb b feed) refl (record-part s)
 
 pub query-within : (s : List ℕ) → length (queryIn s) ≤ length s
 query-within s = omega (arith, ap length (query-part s), length-take (length (queryIn s)) s)
+
+pub record-within : (s : List ℕ) → length (recordIn s) ≤ length s
+record-within s = omega (arith, ap length (record-part s), length-drop (length (queryIn s) + 1) s)
 
 -- the parts as they are lent: with n the length of the query
 module _ (s : List ℕ) (n : ℕ) (is : n ≡ length (queryIn s)) where

@@ -1,7 +1,6 @@
 -- The text for an answer is that of a refusal or that of the matches, by the ground. Each number has at most ten digits, so that 8,192
 -- bytes hold the lines of 256 pairs. Assumes nothing.
 use native.Mathlib.Omega.{arith}
-use borrow.Author.Needs.{needs}
 use Rattle.report.specs.DecimalLaws.{decimal-word}
 use Rattle.report.specs.Output.{matches, refusal}
 use Rattle.report.specs.OutputLaws.{report-taken, report-refused}

@@ -1,6 +1,6 @@
 -- The digits of what is left, put before those that are written, are all digits put. Assumes nothing.
-use mathlib.Core.Path.{_≡_, refl, ap, sym, _∙_}
-use Prim.Native.Nat.{_+_, _-_, _≤_}
+use mathlib.Core.Path.{_≡_, refl, _∙_}
+use Prim.Native.Nat.{_+_, _≤_}
 use native.Mathlib.Omega.{arith}
 use borrow.Author.Needs.{needs}
 use lib.ListN.{length, length-set}
@@ -12,7 +12,8 @@ use Rattle.report.proofs.text.write_decimal.Statement.{statement}
 use Rattle.report.proofs.text.write_decimal.Tie as tie
 
 abbrev Inv-loop : tie.InvT-loop
-Inv-loop out₀ at number size end₀ rest₀ out end rest = (end ≡ at + length (decimal rest)) × (end ≤ length out₀) × (length out ≡ length out₀) × (put (decimal rest) at out ≡ put (decimal number) at out₀)
+Inv-loop out₀ at number size end₀ rest₀ out end rest =
+    (end ≡ at + length (decimal rest)) × (end ≤ length out₀) × (length out ≡ length out₀) × (put (decimal rest) at out ≡ put (decimal number) at out₀)
 
 abbrev μ-loop : tie.MeasureT-loop
 μ-loop out₀ at number size end₀ rest₀ out end rest = rest

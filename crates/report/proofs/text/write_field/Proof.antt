@@ -7,16 +7,24 @@ use Rattle.report.proofs.text.write_field.Statement.{statement}
 use Rattle.report.proofs.text.write_field.Tie as tie
 
 write-decimal-requires : tie.Need-write-decimal-requires
-write-decimal-requires c κs = room-first (decimal (c .before .before .args .number)) (c .before .before .args .after ∷ []) (c .before .before .args .at) (c .before .before .args .out .now) (c .before .before .pre)
+write-decimal-requires c κs =
+    let start = c .before .before in
+    room-first (decimal (start .args .number)) (start .args .after ∷ []) (start .args .at) (start .args .out .now) (start .pre)
 
 write-byte-requires : tie.Need-write-byte-requires
-write-byte-requires c κs = room-after (c .before .before .before .before .before .before .args .after ∷ []) (c .before .before .before .write-decimal .ensures) (c .before .before .before .before .before .before .pre)
+write-byte-requires c κs =
+    let number = c .before .before .before in
+    let start = number .before .before .before in
+    room-after (start .args .after ∷ []) (number .write-decimal .ensures) (start .pre)
 
 same-length : tie.Need-same-length
 same-length c = search needs
 
 returns : tie.Need-returns
-returns c = written-both (c .before .before .before .before .before .before .write-decimal .ensures) (c .before .before .write-byte .ensures) (c .before .before .before .before .before .before .before .before .before .pre)
+returns c =
+    let byte = c .before .before in
+    let number = byte .before .before .before .before in
+    written-both (number .write-decimal .ensures) (byte .write-byte .ensures) (number .before .before .before .pre)
 
 pub write-field-spec : {M : Type 1} → statement M
 write-field-spec =

@@ -6,19 +6,39 @@ use Rattle.report.proofs.text.write_line.Statement.{statement}
 use Rattle.report.proofs.text.write_line.Tie as tie
 
 write-field-requires : tie.Need-write-field-requires
-write-field-requires c κs = let a = c .before .before .args in line-first (decimal (a .number)) (decimal (a .first)) (decimal (a .end)) (c .before .before .pre)
+write-field-requires c κs =
+    let start = c .before .before in
+    line-first (decimal (start .args .number)) (decimal (start .args .first)) (decimal (start .args .end)) (start .pre)
 
 write-field-requires-2 : tie.Need-write-field-requires-2
-write-field-requires-2 c κs = let a = c .before .before .before .before .before .before .args in line-second (decimal (a .number)) (decimal (a .first)) (decimal (a .end)) (c .before .before .before .before .before .before .pre) (c .before .before .before .write-field .ensures)
+write-field-requires-2 c κs =
+    let one = c .before .before .before in
+    let start = one .before .before .before in
+    line-second
+    (decimal (start .args .number)) (decimal (start .args .first)) (decimal (start .args .end))
+    (start .pre) (one .write-field .ensures)
 
 write-field-requires-3 : tie.Need-write-field-requires-3
-write-field-requires-3 c κs = let a = c .before .before .before .before .before .before .before .before .before .before .args in line-third (decimal (a .number)) (decimal (a .first)) (decimal (a .end)) (c .before .before .before .before .before .before .before .before .before .before .pre) (c .before .before .before .before .before .before .before .write-field .ensures) (c .before .before .before .write-field2 .ensures)
+write-field-requires-3 c κs =
+    let two = c .before .before .before in
+    let one = two .before .before .before .before in
+    let start = one .before .before .before in
+    line-third
+    (decimal (start .args .number)) (decimal (start .args .first)) (decimal (start .args .end))
+    (start .pre) (one .write-field .ensures) (two .write-field2 .ensures)
 
 same-length : tie.Need-same-length
 same-length c = search needs
 
 returns : tie.Need-returns
-returns c = let a = c .before .before .before .before .before .before .before .before .before .before .before .before .before .args in line-written (decimal (a .number)) (decimal (a .first)) (decimal (a .end)) (c .before .before .before .before .before .before .before .before .before .before .before .before .before .pre) (c .before .before .before .before .before .before .before .before .before .before .write-field .ensures) (c .before .before .before .before .before .before .write-field2 .ensures) (c .before .before .write-field3 .ensures)
+returns c =
+    let three = c .before .before in
+    let two = three .before .before .before .before in
+    let one = two .before .before .before .before in
+    let start = one .before .before .before in
+    line-written
+    (decimal (start .args .number)) (decimal (start .args .first)) (decimal (start .args .end))
+    (start .pre) (one .write-field .ensures) (two .write-field2 .ensures) (three .write-field3 .ensures)
 
 pub write-line-spec : {M : Type 1} → statement M
 write-line-spec =

@@ -10,13 +10,16 @@ use Rattle.report.proofs.text.write_pairs.Statement.{statement}
 use Rattle.report.proofs.text.write_pairs.Tie as tie
 
 abbrev Inv-loop : tie.InvT-loop
-Inv-loop out₀ at pairs list end₀ i₀ out end i = (i ≤ pairs) × Left i pairs list (pairLines 0 pairs list) at out₀ end out × (length out ≡ length out₀)
+Inv-loop out₀ at pairs list end₀ i₀ out end i =
+    (i ≤ pairs) × Left i pairs list (pairLines 0 pairs list) at out₀ end out × (length out ≡ length out₀)
 
 abbrev μ-loop : tie.MeasureT-loop
 μ-loop out₀ at pairs list end₀ i₀ out end i = pairs - i
 
 loop-holds : tie.Need-loop-holds Inv-loop μ-loop
-loop-holds c = (omega arith, left-all (c .before .before .args .pairs) (c .before .before .args .list .now) (c .before .before .args .at) (c .before .before .args .out .now) (c .before .before .pre .1), refl)
+loop-holds c =
+    let start = c .before .before in
+    (omega arith, left-all (start .args .pairs) (start .args .list .now) (start .args .at) (start .args .out .now) (start .pre .1), refl)
 
 cast-pair : tie.Need-cast-pair Inv-loop μ-loop
 cast-pair c = search needs
@@ -49,7 +52,11 @@ loop-less : tie.Need-loop-less Inv-loop μ-loop
 loop-less c = search needs
 
 loop-again : tie.Need-loop-again Inv-loop μ-loop
-loop-again c = (omega arith, left-next (c .before .before .before .before .before .before .loop-test .taken) (c .before .before .before .before .before .before .before .loop .inv .1) (c .before .before .write-line .ensures), c .before .before .write-line .kept .0 ∙ c .before .before .before .before .before .before .before .loop .inv .2)
+loop-again c =
+    let line = c .before .before .write-line in
+    let test = c .before .before .before .before .before .before in
+    let here = test .before .loop in
+    (omega arith, left-next (test .loop-test .taken) (here .inv .1) (line .ensures), line .kept .0 ∙ here .inv .2)
 
 same-length : tie.Need-same-length Inv-loop μ-loop
 same-length c = search needs

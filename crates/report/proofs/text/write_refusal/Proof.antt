@@ -10,19 +10,39 @@ slice-aggregate-write-word : tie.Need-slice-aggregate-write-word
 slice-aggregate-write-word c = search needs
 
 write-word-requires : tie.Need-write-word-requires
-write-word-requires c κs = let a = c .before .before .before .args in line-first (ascii "refused") (decimal (a .ground)) (decimal (a .place)) (c .before .before .before .pre)
+write-word-requires c κs =
+    let start = c .before .before .before in
+    line-first (ascii "refused") (decimal (start .args .ground)) (decimal (start .args .place)) (start .pre)
 
 write-field-requires : tie.Need-write-field-requires
-write-field-requires c κs = let a = c .before .before .before .before .before .before .before .args in line-second (ascii "refused") (decimal (a .ground)) (decimal (a .place)) (c .before .before .before .before .before .before .before .pre) (c .before .before .before .write-word .ensures)
+write-field-requires c κs =
+    let one = c .before .before .before in
+    let start = one .before .before .before .before in
+    line-second
+    (ascii "refused") (decimal (start .args .ground)) (decimal (start .args .place))
+    (start .pre) (one .write-word .ensures)
 
 write-field-requires-2 : tie.Need-write-field-requires-2
-write-field-requires-2 c κs = let a = c .before .before .before .before .before .before .before .before .before .before .before .args in line-third (ascii "refused") (decimal (a .ground)) (decimal (a .place)) (c .before .before .before .before .before .before .before .before .before .before .before .pre) (c .before .before .before .before .before .before .before .write-word .ensures) (c .before .before .before .write-field .ensures)
+write-field-requires-2 c κs =
+    let two = c .before .before .before in
+    let one = two .before .before .before .before in
+    let start = one .before .before .before .before in
+    line-third
+    (ascii "refused") (decimal (start .args .ground)) (decimal (start .args .place))
+    (start .pre) (one .write-word .ensures) (two .write-field .ensures)
 
 same-length : tie.Need-same-length
 same-length c = search needs
 
 returns : tie.Need-returns
-returns c = let a = c .before .before .before .before .before .before .before .before .before .before .before .before .before .before .args in line-written (ascii "refused") (decimal (a .ground)) (decimal (a .place)) (c .before .before .before .before .before .before .before .before .before .before .before .before .before .before .pre) (c .before .before .before .before .before .before .before .before .before .before .write-word .ensures) (c .before .before .before .before .before .before .write-field .ensures) (c .before .before .write-field2 .ensures)
+returns c =
+    let three = c .before .before in
+    let two = three .before .before .before .before in
+    let one = two .before .before .before .before in
+    let start = one .before .before .before .before in
+    line-written
+    (ascii "refused") (decimal (start .args .ground)) (decimal (start .args .place))
+    (start .pre) (one .write-word .ensures) (two .write-field .ensures) (three .write-field2 .ensures)
 
 pub write-refusal-spec : {M : Type 1} → statement M
 write-refusal-spec =

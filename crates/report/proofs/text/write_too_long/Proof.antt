@@ -1,5 +1,4 @@
 -- The word is the line with its line feed. Assumes nothing.
-use native.Mathlib.Omega.{arith}
 use borrow.Author.Needs.{needs}
 use Rattle.report.specs.Output.{line}
 use Rattle.report.specs.PutLaws.{printed}
