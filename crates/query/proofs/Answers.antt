@@ -66,9 +66,14 @@ nothing-left q i h = ap (reading done i) (drop-of-length-le q h)
 
 module _ {q : List ℕ} {place n i : ℕ} (s : OverflowFrom q place n i) where
   pub overflow-on : {f : Found} {m : ℕ} → StepTaken q i f m → OverflowFrom q place n m
-  overflow-on {f} {m} t = record { within = t .within; same = s .same ∙ ap (overflow place) (t .reads) ∙ overflow-push place (placedAt q f) (reading done m (drop m q)) }
+  overflow-on {f} {m} t = record {
+    within = t .within;
+    same = s .same ∙ ap (overflow place) (t .reads) ∙
+        overflow-push place (placedAt q f) (reading done m (drop m q));
+  }
 
-  pub overflow-refused : {r : StepRead} {p : ℕ} {a : Outcome} → StepAt q i r → tagOf the-type r ≡ 1 → p ≡ readPlace r → a ≡ refusal 2 p → a ≡ overflow place (reading done n (drop n q))
+  pub overflow-refused : {r : StepRead} {p : ℕ} {a : Outcome} → StepAt q i r → tagOf the-type r ≡ 1 → p ≡ readPlace r → a ≡ refusal 2 p →
+      a ≡ overflow place (reading done n (drop n q))
   overflow-refused z t e f = f ∙ ap (refusal 2) e ∙ sym (s .same ∙ ap (overflow place) (step-refused z t))
 
   pub overflow-end : {a : Outcome} → length q ≤ i → a ≡ refusal 3 place → a ≡ overflow place (reading done n (drop n q))
@@ -127,7 +132,8 @@ no-root : (b : ℕ) → (b ≡ 0x24 → ⊥) → step (M.at root) b ≡ dead
 unfolding step pick
 no-root b f = miss-only 0x24 done [] b f
 
-pub other-answer : {q : List ℕ} {a : Outcome} → length q ≤ maxQueryBytes → (length q ≡ 0 → ⊥) → (getD q 0 0 ≡ 0x24 → ⊥) → a ≡ refusal 2 0 → QueryRead q a
+pub other-answer : {q : List ℕ} {a : Outcome} → length q ≤ maxQueryBytes → (length q ≡ 0 → ⊥) → (getD q 0 0 ≡ 0x24 → ⊥) → a ≡ refusal 2 0 →
+    QueryRead q a
 other-answer {q} l n g f = bad-answer l (stop-at root q 0 (omega arith) (no-root (getD q 0 0) g)) f
 
 -- the steps read so far, and the place where reading goes on
@@ -169,7 +175,8 @@ begin-so-far {q} {c} l n e f = record {
 }
 
 module _ {q : List ℕ} {c : Compiled} {i : ℕ} (s : SoFar q c i) where
-  pub so-far-more : {f : Found} {m : ℕ} {d : Compiled} → StepTaken q i f m → Holds q (stepsOf (s .before) ++ placedAt q f .step ∷ []) d → SoFar q d m
+  pub so-far-more : {f : Found} {m : ℕ} {d : Compiled} → StepTaken q i f m → Holds q (stepsOf (s .before) ++ placedAt q f .step ∷ []) d →
+      SoFar q d m
   so-far-more {f} {m} {d} t w = record {
     short = s .short;
     within = t .within;
@@ -178,7 +185,8 @@ module _ {q : List ℕ} {c : Compiled} {i : ℕ} (s : SoFar q c i) where
     reads = s .reads ∙ ap (prepend (s .before)) (t .reads) ∙ prepend-push (s .before) (placedAt q f) (reading done m (drop m q));
   }
 
-  pub so-far-refused : {r : StepRead} {p : ℕ} {a : Outcome} → StepAt q i r → tagOf the-type r ≡ 1 → p ≡ readPlace r → a ≡ refusal 2 p → QueryRead q a
+  pub so-far-refused : {r : StepRead} {p : ℕ} {a : Outcome} → StepAt q i r → tagOf the-type r ≡ 1 → p ≡ readPlace r → a ≡ refusal 2 p →
+      QueryRead q a
   so-far-refused z t e f = bad-answer (s .short) (s .reads ∙ ap (prepend (s .before)) (step-refused z t ∙ ap bad (sym e))) f
 
   -- the query ends
@@ -186,7 +194,8 @@ module _ {q : List ℕ} {c : Compiled} {i : ℕ} (s : SoFar q c i) where
   unfolding judged stepsIn
   so-far-end h =
       let l = s .before in
-      let e : reading root 0 q ≡ good (named [] l) = s .reads ∙ ap (prepend l) (nothing-left q i h) ∙ ap (λ (k : List Placed). good (named [] k)) (append-nil l) in
+      let e : reading root 0 q ≡ good (named [] l) = s .reads ∙ ap (prepend l) (nothing-left q i h) ∙
+      ap (λ (k : List Placed). good (named [] k)) (append-nil l) in
       let v : queryVerdict q ≡ Verdict.taken = short-enough q (s .short) ∙ ap judged e ∙ few l (omega (arith, s .held .few, length-steps l)) in
       let x : stepsIn q ≡ stepsOf l = ap (λ (r : Reading). stepsOf (stepsRead r)) e in
       record {
@@ -196,7 +205,8 @@ module _ {q : List ℕ} {c : Compiled} {i : ℕ} (s : SoFar q c i) where
       }
 
   -- a 17th step stands there
-  pub so-far-many : {f : Found} {m : ℕ} {a : Outcome} → StepTaken q i f m → c .count ≡ maxSteps → a ≡ overflow (f .place) (reading done m (drop m q)) → QueryRead q a
+  pub so-far-many : {f : Found} {m : ℕ} {a : Outcome} → StepTaken q i f m → c .count ≡ maxSteps →
+      a ≡ overflow (f .place) (reading done m (drop m q)) → QueryRead q a
   unfolding judged
   so-far-many {f} {m} {a} t n g = go (reading done m (drop m q)) (s .reads ∙ ap (prepend (s .before)) (t .reads)) g
     where

@@ -19,13 +19,15 @@ module _ (c : Control) (q : List ℕ) (i : ℕ) where
   -- the query ends
   pub end-at : length q ≤ i → final c ≡ false → reading c i (drop i q) ≡ bad i
   unfolding reading
-  end-at h e = ap (reading c i) (drop-of-length-le q h) ∙ ap (λ (x : Bool). elim x as (λ _. Reading) [ true ↦ good (named [] []) | false ↦ bad i ]) e
+  end-at h e = ap (reading c i) (drop-of-length-le q h) ∙ ap
+      (λ (x : Bool). elim x as (λ _. Reading) [ true ↦ good (named [] []) | false ↦ bad i ]) e
 
   module _ (h : i < length q) where
     pub stop-at : step (at c) (getD q i 0) ≡ dead → reading c i (drop i q) ≡ bad i
     stop-at e = ap (reading c i) (byte-at q i h) ∙ S.stop c i (getD q i 0) (drop (i + 1) q) e
 
-    pub turn-at : (k : Control) → step (at c) (getD q i 0) ≡ at k → reading c i (drop i q) ≡ note (event c k) i (getD q i 0) (reading k (i + 1) (drop (i + 1) q))
+    pub turn-at : (k : Control) → step (at c) (getD q i 0) ≡ at k →
+        reading c i (drop i q) ≡ note (event c k) i (getD q i 0) (reading k (i + 1) (drop (i + 1) q))
     turn-at k e =
         ap (reading c i) (byte-at q i h) ∙ S.turn c k i (getD q i 0) (drop (i + 1) q) e ∙
         ap (note (event c k) i (getD q i 0)) (S.moved k (suc i) (i + 1) (drop (i + 1) q) (omega arith))

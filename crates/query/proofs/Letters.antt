@@ -30,7 +30,8 @@ letter-note n b (good a) = refl
 letter-note n b (bad p) = refl
 
 -- a letter, and what is spelt behind it
-pub spelt-letter : (q : List ℕ) (c k l : Control) (i : ℕ) (ok : Bool) (r : ℕ) → i < length q → step (M.at c) (getD q i 0) ≡ M.at k → event c k ≡ letter →
+pub spelt-letter : (q : List ℕ) (c k l : Control) (i : ℕ) (ok : Bool) (r : ℕ) → i < length q → step (M.at c) (getD q i 0) ≡ M.at k →
+    event c k ≡ letter →
     i < r → r ≤ length q → reading k (i + 1) (drop (i + 1) q) ≡ spelt q l (i + 1) ok r → reading c i (drop i q) ≡ spelt q l i ok r
 unfolding spell
 spelt-letter q c k l i true r h e f m w z =
@@ -54,7 +55,8 @@ spell-bad [] p = refl
 spell-bad (b ∷ w) p = ap (note letter 0 b) (spell-bad w p)
 
 -- what is spelt up to j, and what is spelt from there
-pub spelt-join : (q : List ℕ) (c k l : Control) (i j : ℕ) (ok : Bool) (r : ℕ) → i ≤ j → (ok ≡ true → j ≤ r) → reading c i (drop i q) ≡ spelt q k i true j →
+pub spelt-join : (q : List ℕ) (c k l : Control) (i j : ℕ) (ok : Bool) (r : ℕ) → i ≤ j → (ok ≡ true → j ≤ r) →
+    reading c i (drop i q) ≡ spelt q k i true j →
     reading k j (drop j q) ≡ spelt q l j ok r → reading c i (drop i q) ≡ spelt q l i ok r
 spelt-join q c k l i j true r h m e f =
     e ∙ ap (spell (slice i j q)) f ∙ sym (spell-append (slice i j q) (slice j r q) (reading l r (drop r q))) ∙

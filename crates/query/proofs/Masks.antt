@@ -17,9 +17,10 @@ use Rattle.bits.specs.Laws.{lt-or-ge, bit-or, bit-high, bit-single}
 use Rattle.query.specs.declared.step.Found.{Found}
 use Rattle.query.specs.declared.compiled.Compiled.{Compiled}
 use Rattle.query.specs.Steps.{Step}
+use Rattle.query.specs.Read.{nameBytes}
 use Rattle.query.specs.Verdict.{maxSteps}
 use Rattle.query.specs.Reader.{selectorAt, placedAt, Bounded}
-use Rattle.query.specs.Holds.{isEvery, isNamed, nameIn, deepAt, everyAt, namedAt, nameAt, Holds}
+use Rattle.query.specs.Holds.{isEvery, isNamed, deepAt, everyAt, namedAt, nameAt, Holds}
 
 -- the number with bit n alone
 one-bit : (n i : ℕ) → n < maxSteps → bit i (1 * 2 ^ n % 2 ^ 16) ≡ eqb i n
@@ -109,10 +110,10 @@ named-found q f = go (f .every)
     go true = refl
     go false = refl
 
-name-found : (q : List ℕ) (f : Found) → Bounded q f → slice (f .start) (f .end) q ≡ nameIn (placedAt q f .step .selector)
+name-found : (q : List ℕ) (f : Found) → Bounded q f → slice (f .start) (f .end) q ≡ nameBytes (placedAt q f .step .selector)
 name-found q f b = go (f .every) refl
   where
-    go : (t : Bool) → f .every ≡ t → slice (f .start) (f .end) q ≡ nameIn (selectorAt q t (f .start) (f .end))
+    go : (t : Bool) → f .every ≡ t → slice (f .start) (f .end) q ≡ nameBytes (selectorAt q t (f .start) (f .end))
     go true e = let z : f .end ≡ f .start = omega (arith, b .none e, b .order) in rw z (slice-empty (f .start) q)
     go false e = refl
 
@@ -121,8 +122,15 @@ module _ (q : List ℕ) (x : List Step) (c : Compiled) (f : Found) (d e n : ℕ)
     (every : (i : ℕ) → bit i e ≡ (bit i (c .every) || (f .every && eqb i (c .count))))
     (named : (i : ℕ) → bit i n ≡ (bit i (c .named) || (not (f .every) && eqb i (c .count)))) where
   abbrev more : Compiled
-  more = record
-      { count = c .count + 1; deep = d; every = e; named = n; starts = set (c .starts) (c .count) (f .start); ends = set (c .ends) (c .count) (f .end) }
+  more = record {
+    count = c .count + 1;
+    deep = d;
+    every = e;
+    named = n;
+    starts = set (c .starts) (c .count) (f .start);
+    ends =
+        set (c .ends) (c .count) (f .end);
+  }
 
   pub holds-more : Holds q (x ++ placedAt q f .step ∷ []) more
   holds-more = record {

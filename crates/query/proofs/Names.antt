@@ -20,7 +20,8 @@ use Rattle.query.specs.Machine.{Control, done, inside, short, quoted, de
 use Rattle.query.specs.Read.{letter, event, reading}
 use Rattle.query.specs.Spell.{spell, alike}
 use Rattle.query.specs.Rows.{miss, landing, leads, allParted, passes}
-use Rattle.query.specs.Scans.{NameByteIs, digit, upper, underscore, lower, below-digits, below-upper, between-cases, above-lower, spelt, NoName, Moved, NameChar, FirstChar, ShortName, QuotedChar, QuotedName}
+use Rattle.query.specs.Scans.{NameByteIs, digit, upper, underscore, lower, below-digits, below-upper, between-cases, above-lower}
+use Rattle.query.specs.Scans.{spelt, NoName, Moved, NameChar, FirstChar, ShortName, QuotedChar, QuotedName}
 use Rattle.query.proofs.At.{byte-at, end-at, stop-at}
 use Rattle.query.proofs.Letters.{spelt-here, spelt-letter, spelt-join}
 use Rattle.query.proofs.Wides.{wide-dotted, wide-short, wide-quoted, wide-reads}
@@ -75,7 +76,8 @@ name-over x w = no-first x w (range 0x30 0x39 (inside short) ∷ beginRows) ∙ 
 no-name : (d : Depth) {b : ℕ} → NameByteIs b false → b < 0x80 → NoName d b → step (M.at (M.dotted d)) b ≡ dead
 unfolding step pick
 no-name G.plain {b} x w n =
-    no-first x w (M.dotRows G.plain) ∙ miss-only 0x2A done (dotRow G.plain ∷ []) b (n .no-star) ∙ miss-only 0x2E (M.dotted G.deep) [] b (n .no-deeper)
+    no-first x w (M.dotRows G.plain) ∙ miss-only 0x2A done (dotRow G.plain ∷ []) b (n .no-star) ∙
+    miss-only 0x2E (M.dotted G.deep) [] b (n .no-deeper)
 no-name G.deep {b} x w n =
     no-first x w (M.dotRows G.deep) ∙ miss-only 0x2A done (dotRow G.deep ∷ []) b (n .no-star) ∙ miss-only 0x5B M.opened [] b (n .no-deeper)
 
@@ -86,7 +88,8 @@ digit-dies G.deep l h = leads (M.dotted G.deep) l h dead refl
 
 module _ (q : List ℕ) (i : ℕ) (h : i < length q) where
   -- a byte that is a letter
-  one-letter : (c : Control) (k : Control) → step (M.at c) (getD q i 0) ≡ M.at k → event c k ≡ letter → reading c i (drop i q) ≡ spelt q k i true (i + 1)
+  one-letter : (c : Control) (k : Control) → step (M.at c) (getD q i 0) ≡ M.at k → event c k ≡ letter →
+      reading c i (drop i q) ≡ spelt q k i true (i + 1)
   one-letter c k e f = spelt-letter q c k k i true (i + 1) h e f (omega arith) (omega arith) (spelt-here q k (i + 1))
 
   went-on : Moved q i true (i + 1)
@@ -130,7 +133,8 @@ module _ (q : List ℕ) (i : ℕ) (h : i < length q) where
         over = λ z g. same-done (name-over y w);
       }
     where
-      same-done : step (M.at (inside short)) (getD q i 0) ≡ step (M.at done) (getD q i 0) → reading (inside short) i (drop i q) ≡ reading done i (drop i q)
+      same-done : step (M.at (inside short)) (getD q i 0) ≡ step (M.at done) (getD q i 0) →
+          reading (inside short) i (drop i q) ≡ reading done i (drop i q)
       same-done f =
           ap (reading (inside short) i) (byte-at q i h) ∙ alike (inside short) done refl refl i (getD q i 0) (drop (i + 1) q) f ∙
           ap (reading done i) (sym (byte-at q i h))
@@ -154,7 +158,11 @@ short-begins {q} {n} {ok} {i} x e =
 
 pub short-dead : {q : List ℕ} {n : ℕ} {ok : Bool} {i : ℕ} → FirstChar q n ok i → ok ≡ false → ShortName q n ok i
 short-dead {q} {n} {ok} {i} x e =
-    record { moved = x .moved; reads = λ d f. x .first d f ∙ ap (λ (b : Bool). spelt q (inside short) n b i) e ∙ ap (λ (b : Bool). spelt q done n b i) (sym e) }
+    record {
+      moved = x .moved;
+      reads = λ d f. x .first d f ∙ ap (λ (b : Bool). spelt q (inside short) n b i) e ∙
+          ap (λ (b : Bool). spelt q done n b i) (sym e);
+    }
 
 pub short-goes-on : {q : List ℕ} {n i : ℕ} {ok : Bool} {r : ℕ} → ShortSoFar q n i → NameChar q i ok r → ok ≡ true → ShortSoFar q n r
 short-goes-on {q} {n} {i} {ok} {r} s x e =
@@ -162,7 +170,8 @@ short-goes-on {q} {n} {i} {ok} {r} s x e =
     record {
       from = omega (arith, s .from);
       within = x .moved .within;
-      reads = λ d f. spelt-join q (M.dotted d) (inside short) (inside short) n i true r (omega (arith, s .from)) (λ z. omega arith) (s .reads d f) (x .later e);
+      reads = λ d f. spelt-join q (M.dotted d) (inside short) (inside short) n i true r (omega (arith, s .from)) (λ z. omega arith)
+          (s .reads d f) (x .later e);
     }
 
 -- it ends before i, at the end of the query or at a byte in no name
@@ -173,7 +182,8 @@ short-ends {q} {n} {i} s e =
       reads = λ d f. s .reads d f ∙ ap (spell (slice n i q)) e;
     }
 
-pub short-over : {q : List ℕ} {n i : ℕ} {ok : Bool} {r : ℕ} → ShortSoFar q n i → NameChar q i ok r → ok ≡ false → getD q i 0 < 0x80 → ShortName q n true i
+pub short-over : {q : List ℕ} {n i : ℕ} {ok : Bool} {r : ℕ} → ShortSoFar q n i → NameChar q i ok r → ok ≡ false → getD q i 0 < 0x80 →
+    ShortName q n true i
 short-over s x e w = short-ends s (x .over e w)
 
 pub short-all : {q : List ℕ} {n i : ℕ} → ShortSoFar q n i → length q ≤ i → ShortName q n true i
@@ -181,31 +191,38 @@ unfolding reading
 short-all {q} {n} {i} s h =
     short-ends s (ap (reading (inside short) i) (drop-of-length-le q h) ∙ sym (ap (reading done i) (drop-of-length-le q h)))
 
-pub short-wide-dead : {q : List ℕ} {n i : ℕ} {ok : Bool} {r : ℕ} → ShortSoFar q n i → NameChar q i ok r → ok ≡ false → 0x80 ≤ getD q i 0 → ShortName q n ok r
+pub short-wide-dead : {q : List ℕ} {n i : ℕ} {ok : Bool} {r : ℕ} → ShortSoFar q n i → NameChar q i ok r → ok ≡ false → 0x80 ≤ getD q i 0 →
+    ShortName q n ok r
 short-wide-dead {q} {n} {i} {ok} {r} s x e w =
     record {
       moved = record { within = x .moved .within; on = λ z. let y : _≡_ {A = Bool} true false = cc in absurd (subst T y tt) };
       reads = λ d f.
-          spelt-join q (M.dotted d) (inside short) done n i false r (omega (arith, s .from)) (λ z. absurd (subst T (sym z) tt)) (s .reads d f) (x .dead e w) ∙
+          spelt-join q (M.dotted d) (inside short) done n i false r (omega (arith, s .from)) (λ z. absurd (subst T (sym z) tt))
+          (s .reads d f) (x .dead e w) ∙
           ap (λ (b : Bool). spelt q done n b r) (sym e);
     }
 
 -- quoted names
 
-quoted-on : (x : Quote) (b : ℕ) → 0x20 ≤ b → b < 0x80 → (b ≡ 0x5C → ⊥) → (b ≡ quoteByte x → ⊥) → step (M.at (inside (quoted x))) b ≡ M.at (inside (quoted x))
+quoted-on : (x : Quote) (b : ℕ) → 0x20 ≤ b → b < 0x80 → (b ≡ 0x5C → ⊥) → (b ≡ quoteByte x → ⊥) →
+    step (M.at (inside (quoted x))) b ≡ M.at (inside (quoted x))
 unfolding landing
 quoted-on G.single b l h f g = go (leb b 0x26) refl (leb b 0x5B) refl
   where
     go : (x : Bool) → leb b 0x26 ≡ x → (y : Bool) → leb b 0x5B ≡ y → step (M.at (inside (quoted G.single))) b ≡ M.at (inside (quoted G.single))
     go true e y k = leads (inside (quoted G.single)) l (leb-true b 0x26 e) (M.at (inside (quoted G.single))) refl
-    go false e true k = leads (inside (quoted G.single)) {lo = 0x28} (omega (arith, leb-false b 0x26 e)) (leb-true b 0x5B k) (M.at (inside (quoted G.single))) refl
-    go false e false k = leads (inside (quoted G.single)) {lo = 0x5D} {hi = 0x7F} (omega (arith, leb-false b 0x5B k)) (omega arith) (M.at (inside (quoted G.single))) refl
+    go false e true k = leads (inside (quoted G.single)) {lo = 0x28} (omega (arith, leb-false b 0x26 e)) (leb-true b 0x5B k)
+        (M.at (inside (quoted G.single))) refl
+    go false e false k = leads (inside (quoted G.single)) {lo = 0x5D} {hi = 0x7F} (omega (arith, leb-false b 0x5B k)) (omega arith)
+        (M.at (inside (quoted G.single))) refl
 quoted-on G.double b l h f g = go (leb b 0x21) refl (leb b 0x5B) refl
   where
     go : (x : Bool) → leb b 0x21 ≡ x → (y : Bool) → leb b 0x5B ≡ y → step (M.at (inside (quoted G.double))) b ≡ M.at (inside (quoted G.double))
     go true e y k = leads (inside (quoted G.double)) l (leb-true b 0x21 e) (M.at (inside (quoted G.double))) refl
-    go false e true k = leads (inside (quoted G.double)) {lo = 0x23} (omega (arith, leb-false b 0x21 e)) (leb-true b 0x5B k) (M.at (inside (quoted G.double))) refl
-    go false e false k = leads (inside (quoted G.double)) {lo = 0x5D} {hi = 0x7F} (omega (arith, leb-false b 0x5B k)) (omega arith) (M.at (inside (quoted G.double))) refl
+    go false e true k = leads (inside (quoted G.double)) {lo = 0x23} (omega (arith, leb-false b 0x21 e)) (leb-true b 0x5B k)
+        (M.at (inside (quoted G.double))) refl
+    go false e false k = leads (inside (quoted G.double)) {lo = 0x5D} {hi = 0x7F} (omega (arith, leb-false b 0x5B k)) (omega arith)
+        (M.at (inside (quoted G.double))) refl
 
 control-dies : (x : Quote) {b : ℕ} → b < 0x20 → step (M.at (inside (quoted x))) b ≡ dead
 unfolding landing
@@ -242,7 +259,8 @@ pub record QuotedSoFar (q : List ℕ) (quote n i : ℕ) : Type 0 where
 pub quoted-begins : {q : List ℕ} {quote n : ℕ} → n ≤ length q → QuotedSoFar q quote n n
 quoted-begins {q} {quote} {n} h = record { from = omega arith; within = h; reads = λ x e. spelt-here q (inside (quoted x)) n }
 
-pub quoted-goes-on : {q : List ℕ} {quote n i : ℕ} {ok : Bool} {r : ℕ} → QuotedSoFar q quote n i → (getD q i 0 ≡ quote → ⊥) → QuotedChar q i ok r → ok ≡ true → QuotedSoFar q quote n r
+pub quoted-goes-on : {q : List ℕ} {quote n i : ℕ} {ok : Bool} {r : ℕ} → QuotedSoFar q quote n i → (getD q i 0 ≡ quote → ⊥) →
+    QuotedChar q i ok r → ok ≡ true → QuotedSoFar q quote n r
 quoted-goes-on {q} {quote} {n} {i} {ok} {r} s f x e =
     let m = x .moved .on e in
     record {
@@ -256,13 +274,15 @@ quoted-goes-on {q} {quote} {n} {i} {ok} {r} s f x e =
 pub quoted-closes : {q : List ℕ} {quote n i : ℕ} → QuotedSoFar q quote n i → i < length q → getD q i 0 ≡ quote → QuotedName q quote n true i
 quoted-closes s h e = record { within = s .within; closed = λ w. (s .from, h, e); reads = s .reads }
 
-pub quoted-dead : {q : List ℕ} {quote n i : ℕ} {ok : Bool} {r : ℕ} → QuotedSoFar q quote n i → (getD q i 0 ≡ quote → ⊥) → QuotedChar q i ok r → ok ≡ false → QuotedName q quote n ok r
+pub quoted-dead : {q : List ℕ} {quote n i : ℕ} {ok : Bool} {r : ℕ} → QuotedSoFar q quote n i → (getD q i 0 ≡ quote → ⊥) →
+    QuotedChar q i ok r → ok ≡ false → QuotedName q quote n ok r
 quoted-dead {q} {quote} {n} {i} {ok} {r} s f x e =
     record {
       within = x .moved .within;
       closed = λ w. absurd (subst T (sym w ∙ e) tt);
       reads = λ y z.
-          spelt-join q (inside (quoted y)) (inside (quoted y)) (inside (quoted y)) n i ok r (s .from) (λ w. absurd (subst T (sym w ∙ e) tt)) (s .reads y z)
+          spelt-join q (inside (quoted y)) (inside (quoted y)) (inside (quoted y)) n i ok r (s .from) (λ w. absurd (subst T (sym w ∙ e) tt))
+          (s .reads y z)
           (x .reads y (λ w. f (w ∙ sym z)));
     }
 
@@ -272,6 +292,7 @@ quoted-open {q} {quote} {n} {i} s h =
       within = s .within;
       closed = λ w. absurd (subst T (sym w) tt);
       reads = λ x z.
-          spelt-join q (inside (quoted x)) (inside (quoted x)) (inside (quoted x)) n i false i (s .from) (λ w. absurd (subst T (sym w) tt)) (s .reads x z)
+          spelt-join q (inside (quoted x)) (inside (quoted x)) (inside (quoted x)) n i false i (s .from) (λ w. absurd (subst T (sym w) tt))
+          (s .reads x z)
           (end-at (inside (quoted x)) q i h refl);
     }

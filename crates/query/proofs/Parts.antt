@@ -17,7 +17,8 @@ use Rattle.query.specs.Grammar.{Quote, quoteByte, Depth}
 use Rattle.query.specs.Steps as S
 use Rattle.query.specs.Steps.{Selector}
 use Rattle.query.specs.Machine as M
-use Rattle.query.specs.Machine.{Control, root, done, gap, opened, closing, inside, tailDue, quoted, State, dead, Row, blankRows, beginRows, pick, step}
+use Rattle.query.specs.Machine.{Control, root, done, gap, opened, closing, inside, tailDue, quoted, State, dead, Row, blankRows}
+use Rattle.query.specs.Machine.{beginRows, pick, step}
 use Rattle.query.specs.Read as R
 use Rattle.query.specs.Read.{begin, deepen, Placed, named, Reading, good, bad, note, reading}
 use Rattle.query.specs.Rows.{Lives, every-pick}
@@ -52,12 +53,14 @@ ended-begin : (n b : ℕ) (r : Reading) → Ended (note begin n b r)
 ended-begin n b (good a) = clean _
 ended-begin n b (bad p) = cut p
 
-ended-state : (n b : ℕ) (s : List ℕ) (m : State) → step (M.at gap) b ≡ m → Lives Begins m → Ended (reading gap (suc n) s) → Ended (reading gap n (b ∷ s))
+ended-state : (n b : ℕ) (s : List ℕ) (m : State) → step (M.at gap) b ≡ m → Lives Begins m → Ended (reading gap (suc n) s) →
+    Ended (reading gap n (b ∷ s))
 ended-state n b s dead e l again = subst Ended (sym (P.stop gap n b s e)) (cut n)
 ended-state n b s (M.at root) e l again = absurd l
 ended-state n b s (M.at done) e l again = absurd l
 ended-state n b s (M.at gap) e l again = subst Ended (sym (P.kept gap gap n b s e refl)) again
-ended-state n b s (M.at (M.dotted G.plain)) e l again = subst Ended (sym (P.turn gap (M.dotted G.plain) n b s e)) (ended-begin n b (reading (M.dotted G.plain) (suc n) s))
+ended-state n b s (M.at (M.dotted G.plain)) e l again = subst Ended (sym (P.turn gap (M.dotted G.plain) n b s e))
+    (ended-begin n b (reading (M.dotted G.plain) (suc n) s))
 ended-state n b s (M.at (M.dotted G.deep)) e l again = absurd l
 ended-state n b s (M.at opened) e l again = subst Ended (sym (P.turn gap opened n b s e)) (ended-begin n b (reading opened (suc n) s))
 ended-state n b s (M.at closing) e l again = absurd l
@@ -88,7 +91,8 @@ choose-name w r (clean l) = spell-named w l
 choose-name w r (cut p) = spell-bad w p
 
 -- a step begins, with what it takes
-push-plain : (n b : ℕ) (x : Selector) (r : Reading) → note begin n b (choose x r) ≡ push (record { place = n; step = record { deep = false; selector = x } }) r
+push-plain : (n b : ℕ) (x : Selector) (r : Reading) →
+    note begin n b (choose x r) ≡ push (record { place = n; step = record { deep = false; selector = x } }) r
 push-plain n b x (good a) = refl
 push-plain n b x (bad p) = refl
 
@@ -132,8 +136,8 @@ module _ {q : List ℕ} {f : Found} {n r : ℕ} (s : Skipped q n r) where
       (s .over closing in-closing ∙ kept-at closing q r h done (ap (step (M.at closing)) e) refl)
 
 -- a part of a step, from where the reading was led on
-pub part-from : {q : List ℕ} {c k : Control} {n m place : ℕ} {deep : Bool} {r : StepRead} → n ≤ m → reading c n (drop n q) ≡ reading k m (drop m q) →
-    PartRead q k m place deep r → PartRead q c n place deep r
+pub part-from : {q : List ℕ} {c k : Control} {n m place : ℕ} {deep : Bool} {r : StepRead} → n ≤ m →
+    reading c n (drop n q) ≡ reading k m (drop m q) → PartRead q k m place deep r → PartRead q c n place deep r
 part-from l e (Reader.PartRead.taken f m p d b h w g) = Reader.PartRead.taken f m p d b (omega arith) w (e ∙ g)
 part-from l e (Reader.PartRead.refused p g) = Reader.PartRead.refused p (e ∙ g)
 
@@ -142,7 +146,8 @@ module _ (q : List ℕ) (c : Control) (n k : ℕ) (f : Found) (said : Reading �
     (bads : (p : ℕ) → said (bad p) ≡ bad p) (chooses : (r : Reading) → Ended r → said r ≡ choose (selectorAt q (f .every) (f .start) (f .end)) r)
     (e : reading c n (drop n q) ≡ said (reading closing k (drop k q))) where
   close-part : {a : StepRead} → Closed q f k a → PartRead q c n (f .place) (f .deep) a
-  close-part (Reader.Closed.taken m h w g) = Reader.PartRead.taken f m refl refl b (omega arith) w (e ∙ ap said g ∙ chooses (reading done m (drop m q)) (ended m (drop m q)))
+  close-part (Reader.Closed.taken m h w g) = Reader.PartRead.taken f m refl refl b (omega arith) w
+      (e ∙ ap said g ∙ chooses (reading done m (drop m q)) (ended m (drop m q)))
   close-part (Reader.Closed.refused p g) = Reader.PartRead.refused p (e ∙ ap said g ∙ bads p)
 
 abbrev nameFound : ℕ → Bool → ℕ → ℕ → Found
@@ -164,7 +169,8 @@ module _ {q : List ℕ} {quote n place : ℕ} {deep ok : Bool} {r : ℕ} (s : Qu
       (record { order = c .0; within = s .within; none = λ y. absurd (subst T (sym y) tt) })
       (spell-bad (slice n r q)) (choose-name (slice n r q))
       (s .reads x z ∙ ap (λ (b : Bool). spelt q (inside (quoted x)) n b r) e ∙
-      ap (spell (slice n r q)) (kept-at (inside (quoted x)) q r (c .1) closing (ap (step (M.at (inside (quoted x)))) (c .2 ∙ z) ∙ quote-closes x) refl))
+      ap (spell (slice n r q)) (kept-at (inside (quoted x)) q r (c .1) closing
+      (ap (step (M.at (inside (quoted x)))) (c .2 ∙ z) ∙ quote-closes x) refl))
       d
 
 -- in brackets
@@ -184,9 +190,11 @@ module _ {q : List ℕ} {n r : ℕ} (s : Skipped q n r) {place : ℕ} {deep : Bo
         (λ p. refl) (choose-every r (getD q r 0))
         (s .over opened in-opened ∙ turn-at opened q r h closing (ap (step (M.at opened)) e)) z
 
-    pub opened-quote : (x : Quote) → getD q r 0 ≡ quoteByte x → {a : StepRead} → PartRead q (inside (quoted x)) (r + 1) place deep a → PartRead q opened n place deep a
+    pub opened-quote : (x : Quote) → getD q r 0 ≡ quoteByte x → {a : StepRead} → PartRead q (inside (quoted x)) (r + 1) place deep a →
+        PartRead q opened n place deep a
     opened-quote x e z =
-        part-from (omega (arith, s .from)) (s .over opened in-opened ∙ kept-at opened q r h (inside (quoted x)) (ap (step (M.at opened)) e ∙ quote-opens x) refl) z
+        part-from (omega (arith, s .from))
+        (s .over opened in-opened ∙ kept-at opened q r h (inside (quoted x)) (ap (step (M.at opened)) e ∙ quote-opens x) refl) z
 
 -- behind `.` or `..`
 star-done : (d : Depth) → step (M.at (M.dotted d)) 0x2A ≡ M.at done
@@ -199,21 +207,24 @@ module _ {q : List ℕ} {n place : ℕ} {deep : Bool} where
 
   pub short-every : n < length q → getD q n 0 ≡ 0x2A → PartRead q (M.dotted (depthOf deep)) n place deep (Taken (everyFound place deep) (n + 1))
   short-every h e =
-      Reader.PartRead.taken (everyFound place deep) (n + 1) refl refl (record { order = omega arith; within = omega arith; none = λ y. omega arith })
+      Reader.PartRead.taken (everyFound place deep) (n + 1) refl refl
+      (record { order = omega arith; within = omega arith; none = λ y. omega arith })
       (omega arith) (omega arith)
       (turn-at (M.dotted (depthOf deep)) q n h done (ap (step (M.at (M.dotted (depthOf deep)))) e ∙ star-done (depthOf deep)) ∙
       choose-every n (getD q n 0) (reading done (n + 1) (drop (n + 1) q)) (ended (n + 1) (drop (n + 1) q)))
 
   module _ (f : getD q n 0 ≡ 0x2A → ⊥) (g : getD q n 0 ≡ deeperByte (depthOf deep) → ⊥) {ok : Bool} {r : ℕ} (s : ShortName q n ok r) where
     pub short-refused : ok ≡ false → PartRead q (M.dotted (depthOf deep)) n place deep (Refused r)
-    short-refused e = Reader.PartRead.refused r (s .reads (depthOf deep) (record { no-star = f; no-deeper = g }) ∙ ap (λ (b : Bool). spelt q done n b r) e)
+    short-refused e = Reader.PartRead.refused r
+        (s .reads (depthOf deep) (record { no-star = f; no-deeper = g }) ∙ ap (λ (b : Bool). spelt q done n b r) e)
 
     pub short-taken : ok ≡ true → PartRead q (M.dotted (depthOf deep)) n place deep (Taken (nameFound place deep n r) r)
     short-taken e =
         let m = s .moved .on e in
         Reader.PartRead.taken (nameFound place deep n r) r refl refl
         (record { order = omega arith; within = s .moved .within; none = λ y. absurd (subst T (sym y) tt) }) m (s .moved .within)
-        (s .reads (depthOf deep) (record { no-star = f; no-deeper = g }) ∙ ap (λ (b : Bool). spelt q done n b r) e ∙ choose-name (slice n r q) (reading done r (drop r q)) (ended r (drop r q)))
+        (s .reads (depthOf deep) (record { no-star = f; no-deeper = g }) ∙ ap (λ (b : Bool). spelt q done n b r) e ∙
+        choose-name (slice n r q) (reading done r (drop r q)) (ended r (drop r q)))
 
 bracket-opens : step (M.at (M.dotted G.deep)) 0x5B ≡ M.at opened
 unfolding step
@@ -221,11 +232,10 @@ bracket-opens = refl
 
 pub deep-bracket : {q : List ℕ} {n place : ℕ} {a : StepRead} → n < length q → getD q n 0 ≡ 0x5B → PartRead q opened (n + 1) place true a →
     PartRead q (M.dotted (depthOf true)) n place true a
-deep-bracket {q} {n} h e z = part-from (omega arith) (kept-at (M.dotted G.deep) q n h opened (ap (step (M.at (M.dotted G.deep))) e ∙ bracket-opens) refl) z
+deep-bracket {q} {n} h e z = part-from (omega arith)
+    (kept-at (M.dotted G.deep) q n h opened (ap (step (M.at (M.dotted G.deep))) e ∙ bracket-opens) refl) z
 
--- a whole step
-
--- what its first bytes say, and the rest of it
+-- a whole step: what its first bytes say, and the rest of it
 module _ (q : List ℕ) (c : Control) (n k place : ℕ) (deep : Bool) (said : Reading → Reading) (l : n ≤ k) (bads : (p : ℕ) → said (bad p) ≡ bad p)
     (pushes : (x : Selector) (r : Reading) → said (choose x r) ≡ push (record { place = place; step = record { deep = deep; selector = x } }) r)
     (e : reading done n (drop n q) ≡ said (reading c k (drop k q))) where
@@ -239,7 +249,8 @@ module _ (q : List ℕ) (c : Control) (n k place : ℕ) (deep : Bool) (said : Re
 
 module _ {q : List ℕ} {n r : ℕ} (l : n < length q) (s : Skipped q n r) where
   to-gap : reading done n (drop n q) ≡ reading gap r (drop r q)
-  to-gap = ap (reading done n) (byte-at q n l) ∙ done-gap n (getD q n 0) (drop (n + 1) q) ∙ ap (reading gap n) (sym (byte-at q n l)) ∙ s .over gap in-gap
+  to-gap = ap (reading done n) (byte-at q n l) ∙ done-gap n (getD q n 0) (drop (n + 1) q) ∙ ap (reading gap n) (sym (byte-at q n l)) ∙
+      s .over gap in-gap
 
   pub step-cut : length q ≤ r → StepAt q n (Refused r)
   step-cut h = Reader.StepAt.refused r (to-gap ∙ end-at gap q r h refl)
@@ -264,11 +275,15 @@ module _ {q : List ℕ} {n r : ℕ} (l : n < length q) (s : Skipped q n r) where
 
       pub step-plain : {a : StepRead} → PartRead q (M.dotted (depthOf false)) (r + 1) r false a → StepAt q n a
       step-plain z =
-          whole-step q (M.dotted G.plain) n (r + 1) r false (note begin r (getD q r 0)) (omega (arith, s .from)) (λ p. refl) (push-plain r (getD q r 0)) dot z
+          whole-step q (M.dotted G.plain) n (r + 1) r false (note begin r (getD q r 0)) (omega (arith, s .from)) (λ p. refl)
+          (push-plain r (getD q r 0)) dot z
 
-      pub step-deep : r + 1 < length q → getD q (r + 1) 0 ≡ 0x2E → {a : StepRead} → PartRead q (M.dotted (depthOf true)) (r + 1 + 1) r true a → StepAt q n a
+      pub step-deep : r + 1 < length q → getD q (r + 1) 0 ≡ 0x2E → {a : StepRead} →
+          PartRead q (M.dotted (depthOf true)) (r + 1 + 1) r true a → StepAt q n a
       unfolding step
       step-deep g f z =
-          whole-step q (M.dotted G.deep) n (r + 1 + 1) r true (λ x. note begin r (getD q r 0) (note deepen (r + 1) (getD q (r + 1) 0) x)) (omega (arith, s .from))
+          whole-step q (M.dotted G.deep) n (r + 1 + 1) r true (λ x. note begin r (getD q r 0) (note deepen (r + 1) (getD q (r + 1) 0) x))
+          (omega (arith, s .from))
           (λ p. refl) (push-deep r (getD q r 0) (r + 1) (getD q (r + 1) 0))
-          (dot ∙ ap (note begin r (getD q r 0)) (turn-at (M.dotted G.plain) q (r + 1) g (M.dotted G.deep) (ap (step (M.at (M.dotted G.plain))) f))) z
+          (dot ∙ ap (note begin r (getD q r 0))
+          (turn-at (M.dotted G.plain) q (r + 1) g (M.dotted G.deep) (ap (step (M.at (M.dotted G.plain))) f))) z

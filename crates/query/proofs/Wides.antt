@@ -14,7 +14,8 @@ use Rattle.encoding.specs.Utf8Steps.{Due, lowest, highest, First, Next}
 use Rattle.encoding.specs.Utf8At as A
 use Rattle.encoding.specs.Utf8At.{RestAt, ReadsAt}
 use Rattle.query.specs.Machine as M
-use Rattle.query.specs.Machine.{Home, anyTail, afterE0, afterED, afterF0, afterF4, Control, inside, tailDue, dead, Row, range, wideRows, rows, pick, step, final}
+use Rattle.query.specs.Machine.{Home, anyTail, afterE0, afterED, afterF0, afterF4, Control, inside, tailDue, dead, Row, range}
+use Rattle.query.specs.Machine.{wideRows, rows, pick, step, final}
 use Rattle.query.specs.Grammar as G
 use Rattle.query.specs.Read.{letter, event, bad, reading}
 use Rattle.query.specs.Rows.{hit, miss, landing, leads, allUnder, dies-above}
@@ -119,7 +120,8 @@ module _ (q : List ℕ) (h : Home) where
   rest-reads (A.cut {d} {i} l) = stopped (λ w. end-at (dueIn d h) q i l (not-final d h))
   rest-reads (A.under {d} {i} l u) = stopped (λ w. stop-at (dueIn d h) q i l (due-under d h (getD q i 0) u))
   rest-reads (A.over {d} {i} l u) = stopped (λ w. stop-at (dueIn d h) q i l (due-over d h (getD q i 0) u))
-  rest-reads (A.last {i} l u v) = letter-then l (last-leads h (getD q i 0) u v) refl (record { from = omega arith; within = λ w. w; reads = λ w. spelt-here q (inside h) (i + 1) })
+  rest-reads (A.last {i} l u v) = letter-then l (last-leads h (getD q i 0) u v) refl
+      (record { from = omega arith; within = λ w. w; reads = λ w. spelt-here q (inside h) (i + 1) })
   rest-reads (A.next {d} {e} {i} n l u v r) = letter-then l (due-next n h (getD q i 0) u v) (due-letter e h (dueIn d h)) (rest-reads r)
 
 -- the control states from which a code point may begin
@@ -162,7 +164,8 @@ wide-quoted G.single = wide-from (inside (M.quoted G.single)) (M.quoted G.single
 wide-quoted G.double = wide-from (inside (M.quoted G.double)) (M.quoted G.double) _ refl refl tt
 
 -- a code point scanned at i is letters of the name, or the dead byte is at r
-pub wide-reads : (q : List ℕ) {c : Control} {h : Home} {i : ℕ} {ok : Bool} {r : ℕ} → WideFrom c h → i < length q → 0x80 ≤ getD q i 0 → ReadsAt q i ok r →
+pub wide-reads : (q : List ℕ) {c : Control} {h : Home} {i : ℕ} {ok : Bool} {r : ℕ} → WideFrom c h → i < length q → 0x80 ≤ getD q i 0 →
+    ReadsAt q i ok r →
     reading c i (drop i q) ≡ spelt q (inside h) i ok r
 wide-reads q w l u (A.cut g) = absurd (omega arith)
 wide-reads q {c} {h} {i} w l u (A.too-low g v) = stop-at c q i l (w .low u v)

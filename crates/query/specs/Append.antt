@@ -9,7 +9,8 @@ use Rattle.encoding.specs.Utf8 as U
 use Rattle.encoding.specs.Utf8.{Wide, putWide}
 use Rattle.query.specs.Grammar as G
 use Rattle.query.specs.Grammar.{First, Later, Quote, Char, quoteByte, Short, Inner, Depth, Segment, Spaced, Query}
-use Rattle.query.specs.Grammar.{putFirst, putLater, putLaters, putChar, putChars, putShort, putInner, putDots, putDeep, putSegment, putSpaced, putQuery}
+use Rattle.query.specs.Grammar.{putFirst, putLater, putLaters, putChar, putChars, putShort, putInner, putDots, putDeep, putSegment}
+use Rattle.query.specs.Grammar.{putSpaced, putQuery}
 
 -- bytes appended to what stands after x are appended to the whole
 

@@ -9,6 +9,7 @@ use lib.Seq.{slice}
 use Rattle.bits.specs.Bits.{bit}
 use Rattle.query.specs.declared.compiled.Compiled.{Compiled}
 use Rattle.query.specs.Steps.{Selector, name, every, Step}
+use Rattle.query.specs.Read.{nameBytes}
 use Rattle.query.specs.Verdict.{maxSteps}
 
 abbrev pub isEvery : Selector → Bool
@@ -18,10 +19,6 @@ isEvery every = true
 abbrev pub isNamed : Selector → Bool
 isNamed (name w) = true
 isNamed every = false
-
-abbrev pub nameIn : Selector → List ℕ
-nameIn (name w) = w
-nameIn every = []
 
 -- of a step, if there is one: whether it is deep, takes `*`, takes a name, and the bytes of its name
 
@@ -39,7 +36,7 @@ namedAt (some x) = isNamed (x .selector)
 
 abbrev pub nameAt : Option Step → List ℕ
 nameAt none = []
-nameAt (some x) = nameIn (x .selector)
+nameAt (some x) = nameBytes (x .selector)
 
 -- c holds exactly the steps x of the query q; bit and bound i are those of the step number i, counted from 0
 pub record Holds (q : List ℕ) (x : List Step) (c : Compiled) : Type 0 where

@@ -11,7 +11,8 @@ use Rattle.encoding.specs.Prefix.{Alive, DeadPlace}
 use Rattle.query.specs.Grammar as G
 use Rattle.query.specs.Grammar.{Query, QueryText, text}
 use Rattle.query.specs.Machine as M
-use Rattle.query.specs.Machine.{Home, short, quoted, anyTail, afterE0, afterED, afterF0, afterF4, Control, root, done, gap, opened, closing, inside, tailDue, tailsDue, State, dead, at, step, run, place, final, accept, start}
+use Rattle.query.specs.Machine.{Home, short, quoted, anyTail, afterE0, afterED, afterF0, afterF4, Control, root, done, gap, opened}
+use Rattle.query.specs.Machine.{closing, inside, tailDue, tailsDue, State, dead, at, step, run, place, final, accept, start}
 use Rattle.query.specs.Read.{Event, Ahead, named, Reading, good, bad, note, event, reading}
 use Rattle.query.specs.Text.{reads-text}
 use Rattle.query.specs.Sound.{sound}
@@ -114,7 +115,8 @@ place-lives c [] (suc i) h = absurd (omega arith)
 place-lives c (b ∷ s) (suc i) h = go (step (at c) b) refl h (λ k g. place-lives k s i g)
   where
     go : (m : State) → step (at c) b ≡ m → suc i ≤ elim m [ dead ↦ 0 | at k ↦ suc (place (at k) s) ] →
-        ((k : Control) → i ≤ place (at k) s → (k′ : Control) × (run (at k) (take i s) ≡ at k′)) → (k′ : Control) × (run (at c) (take (suc i) (b ∷ s)) ≡ at k′)
+        ((k : Control) → i ≤ place (at k) s → (k′ : Control) × (run (at k) (take i s) ≡ at k′)) → (k′ : Control) ×
+        (run (at c) (take (suc i) (b ∷ s)) ≡ at k′)
     go dead e g again = absurd (omega arith)
     go (at k) e g again = let r = again k (le-of-suc-le-suc g) in (r .0, ap (λ (x : State). run x (take i s)) e ∙ r .1)
 
@@ -158,10 +160,3 @@ dead-place s = record {
   before = λ i h. let r = place-lives root s (suc i) h in alive (take (suc i) s) (r .0) (r .1);
   dead = λ h x. not-alive (take (suc (place start s)) s) (place-dies root s h) x;
 }
-
--- a text has one place of a dead byte
-pub dead-place-only : {L : List ℕ → Type 0} {s : List ℕ} {p q : ℕ} → DeadPlace L s p → DeadPlace L s q → p ≡ q
-dead-place-only {L} {s} {p} {q} x y =
-    let f : ¬ (p < q) = λ h. x .dead (omega (arith, y .within)) (y .before p h) in
-    let g : ¬ (q < p) = λ h. y .dead (omega (arith, x .within)) (x .before q h) in
-    omega arith

@@ -1,4 +1,5 @@
--- The steps of a query by its bytes: each byte says something of the step that it stands in, and `reading` gathers it from the last byte to the first.
+-- The steps of a query by its bytes: each byte says something of the step that it stands in, and `reading` gathers it from the last byte to
+-- the first.
 use mathlib.Core.List.{List, [], _∷_}
 use mathlib.Core.Bool.{Bool, true, false, _||_}
 use Prim.Native.Nat.{ℕ, suc}
@@ -15,6 +16,7 @@ pub data Event : Type 0 where
   every : Event  -- it takes `*`
   letter : Event  -- this byte is one of its name
 
+-- behind `.` or `..`, and behind an opening bracket
 abbrev pub isDotted : Control → Bool
 isDotted root = false
 isDotted done = false
@@ -64,9 +66,10 @@ taking x l = record { this = record { deep = false; selector = x }; later = l }
 abbrev pub named : List ℕ → List Placed → Ahead
 named w l = taking (S.name w) l
 
-abbrev pub letters : Selector → List ℕ
-letters (S.name w) = w
-letters S.every = []
+-- the bytes of its name, if it has one
+abbrev pub nameBytes : Selector → List ℕ
+nameBytes (S.name w) = w
+nameBytes S.every = []
 
 -- what is known with one byte more, b at the place n
 abbrev pub noted : Event → ℕ → ℕ → Ahead → Ahead
@@ -75,7 +78,7 @@ noted begin n b a = named [] (record { place = n; step = a .this } ∷ a .later)
 noted deepen n b a = record { this = record { deep = true; selector = a .this .selector }; later = a .later }
 noted every n b a = record { this = record { deep = a .this .deep; selector = S.every }; later = a .later }
 noted letter n b a =
-    record { this = record { deep = a .this .deep; selector = S.name (b ∷ letters (a .this .selector)) }; later = a .later }
+    record { this = record { deep = a .this .deep; selector = S.name (b ∷ nameBytes (a .this .selector)) }; later = a .later }
 
 -- what the bytes say, or the place where they leave the grammar
 pub data Reading : Type 0 where

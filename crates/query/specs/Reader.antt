@@ -57,7 +57,8 @@ pub data Closed (q : List ℕ) (f : Found) (n : ℕ) : StepRead → Type 0 where
 -- from n on, where the control state is c, the rest of a step stands that begins at `place`
 pub data PartRead (q : List ℕ) (c : Control) (n place : ℕ) (deep : Bool) : StepRead → Type 0 where
   taken : (f : Found) (m : ℕ) → f .place ≡ place → f .deep ≡ deep → Bounded q f → n < m → m ≤ length q →
-      reading c n (drop n q) ≡ choose (selectorAt q (f .every) (f .start) (f .end)) (reading done m (drop m q)) → PartRead q c n place deep (Taken f m)
+      reading c n (drop n q) ≡ choose (selectorAt q (f .every) (f .start) (f .end)) (reading done m (drop m q)) →
+      PartRead q c n place deep (Taken f m)
   refused : (p : ℕ) → reading c n (drop n q) ≡ bad p → PartRead q c n place deep (Refused p)
 
 -- from n on a step stands, and what follows it from m on; or the byte at p is dead

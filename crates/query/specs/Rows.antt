@@ -5,8 +5,10 @@ use mathlib.Core.Bool.{Bool, true, false, _&&_, _||_}
 use mathlib.Core.Option.{Option, some, none}
 use Prim.Native.Nat.{ℕ, _≤_, _<_}
 use native.Mathlib.Omega.{arith}
-use lib.Dec.{T, leb, ltb, leb→le, le→leb, ltb→lt}
+use lib.Dec.{T, leb, ltb, leb→le, ltb→lt}
+use Rattle.bits.specs.Truth.{and-left, and-right}
 use Rattle.encoding.specs.Bytes.{In}
+use Rattle.encoding.specs.BytesLaws.{inside, from-low, to-high}
 use Rattle.query.specs.Machine.{Control, State, dead, at, Row, rows, takes, pick, step}
 
 -- tests
@@ -22,31 +24,11 @@ pub not-T : (b : Bool) → (T b → ⊥) → b ≡ false
 not-T true f = absurd (f tt)
 not-T false f = refl
 
-pub and-left : (a b : Bool) → T (a && b) → T a
-and-left true b t = tt
-and-left false b t = t
-
-pub and-right : (a b : Bool) → T (a && b) → T b
-and-right true b t = t
-and-right false b t = absurd t
-
-and-both : (a b : Bool) → T a → T b → a && b ≡ true
-and-both a b p q = rw (of-T a p, of-T b q)
-
 or-elim : (a b : Bool) {A : Type 0} → T (a || b) → (T a → A) → (T b → A) → A
 or-elim true b t f g = f t
 or-elim false b t f g = g t
 
--- a byte between two numbers
-pub in-low : {lo hi : ℕ} (b : In lo hi) → lo ≤ b .byte
-in-low {lo} {hi} b = leb→le lo (b .byte) (and-left (leb lo (b .byte)) (leb (b .byte) hi) (b .ok))
-
-pub in-high : {lo hi : ℕ} (b : In lo hi) → b .byte ≤ hi
-in-high {lo} {hi} b = leb→le (b .byte) hi (and-right (leb lo (b .byte)) (leb (b .byte) hi) (b .ok))
-
-pub between : {lo hi b : ℕ} → lo ≤ b → b ≤ hi → leb lo b && leb b hi ≡ true
-between {lo} {hi} {b} l h = and-both (leb lo b) (leb b hi) (le→leb lo b l) (le→leb b hi h)
-
+-- the bounds of a byte that a row has
 pub taken-between : (r : Row) (b : ℕ) → T (takes r b) → (r .low ≤ b) × (b ≤ r .high)
 taken-between r b t =
     (leb→le (r .low) b (and-left (leb (r .low) b) (leb b (r .high)) t), leb→le b (r .high) (and-right (leb (r .low) b) (leb b (r .high)) t))
@@ -76,7 +58,7 @@ covered : {lo hi b : ℕ} → lo ≤ b → b ≤ hi → (r : Row) → T (covers 
 covered {lo} {hi} {b} l h r t =
     let x : r .low ≤ lo = leb→le (r .low) lo (and-left (leb (r .low) lo) (leb hi (r .high)) t) in
     let y : hi ≤ r .high = leb→le hi (r .high) (and-right (leb (r .low) lo) (leb hi (r .high)) t) in
-    between {lo = r .low} {hi = r .high} {b = b} (omega arith) (omega arith)
+    inside (r .low) (r .high) b (omega arith) (omega arith)
 
 passed : {lo hi b : ℕ} → lo ≤ b → b ≤ hi → (r : Row) → T (parted r lo hi) → takes r b ≡ false
 passed {lo} {hi} {b} l h r t =
@@ -128,7 +110,7 @@ unfolding step
 leads c l h m e = lands l h (rows c) m e
 
 pub leads-in : (c : Control) {lo hi : ℕ} (b : In lo hi) (m : State) → landing lo hi (rows c) ≡ some m → step (at c) (b .byte) ≡ m
-leads-in c b m e = leads c (in-low b) (in-high b) m e
+leads-in c b m e = leads c (from-low b) (to-high b) m e
 
 -- what holds of every row's target holds of the state that a byte leads to
 abbrev pub Every : (Control → Type 0) → List Row → Type 0

@@ -9,6 +9,7 @@ use native.Mathlib.Omega.{arith}
 use lib.Dec.{T, leb, leb→le, le→leb, nleb→lt}
 use lib.ListN.{length, length-append}
 use Rattle.encoding.specs.Prefix.{DeadPlace}
+use Rattle.encoding.specs.PrefixLaws.{dead-place-unique}
 use Rattle.encoding.specs.Verdict
 use Rattle.encoding.specs.Verdict.{Verdict, refused}
 use Rattle.query.specs.Grammar.{Spaced, Query, QueryText, putSpaced, putQuery, text, segmentStep, stepsOf}
@@ -19,7 +20,7 @@ use Rattle.query.specs.Append.{append-spaced, size}
 use Rattle.query.specs.Rows.{of-T, not-T, so}
 use Rattle.query.specs.Text.{placed, reads-text}
 use Rattle.query.specs.Sound.{sound}
-use Rattle.query.specs.Place.{Tells, well, ill, tells, accepts-text, dead-place, dead-place-only}
+use Rattle.query.specs.Place.{Tells, well, ill, tells, accepts-text, dead-place}
 use Rattle.query.specs.Verdict.{maxQueryBytes, maxSteps, stepsIn, placeOf, counted, judged, queryVerdict, QuerySays, taken, long, wrong, many}
 
 -- the steps
@@ -44,7 +45,8 @@ length-placed [] n = refl
 length-placed (x ∷ t) n = ap suc (length-placed t (n + length (putSpaced x [])))
 
 -- the place of a step is the length of what stands before it
-place-split : (t : Query) (x : Spaced) (u : Query) (n : ℕ) → placeOf (length t) (placed n (t ++ x ∷ u)) ≡ n + length (putQuery t []) + length (x .before)
+place-split : (t : Query) (x : Spaced) (u : Query) (n : ℕ) →
+    placeOf (length t) (placed n (t ++ x ∷ u)) ≡ n + length (putQuery t []) + length (x .before)
 unfolding placed putQuery
 place-split [] x u n = omega arith
 place-split (y ∷ t) x u n =
@@ -63,7 +65,8 @@ split-at (x ∷ t) (suc k) h = go t (split-at t k (le-of-suc-le-suc h))
 
 -- the verdict
 
-many-at : (t : Query) (x : Spaced) (u : Query) → length t ≡ maxSteps → placeOf maxSteps (placed 1 (t ++ x ∷ u)) ≡ length (text t) + length (x .before)
+many-at : (t : Query) (x : Spaced) (u : Query) → length t ≡ maxSteps →
+    placeOf maxSteps (placed 1 (t ++ x ∷ u)) ≡ length (text t) + length (x .before)
 unfolding text
 many-at t x u e = ap (λ (k : ℕ). placeOf k (placed 1 (t ++ x ∷ u))) (sym e) ∙ place-split t x u 1 ∙ omega arith
 
@@ -74,7 +77,8 @@ says-counted s t l e = go (leb (length (placed 1 t)) maxSteps) refl
     more : (t : Query) → text t ≡ s → Split maxSteps t → QuerySays s (refused 3 (placeOf maxSteps (placed 1 t)))
     more t′ e (split t₀ x u f) = subst (λ (p : ℕ). QuerySays s (refused 3 p)) (sym (many-at t₀ x u f)) (many l t₀ x u e f)
 
-    go : (b : Bool) → leb (length (placed 1 t)) maxSteps ≡ b → QuerySays s (elim b [ true ↦ Verdict.taken | false ↦ refused 3 (placeOf maxSteps (placed 1 t)) ])
+    go : (b : Bool) → leb (length (placed 1 t)) maxSteps ≡ b → QuerySays s
+        (elim b [ true ↦ Verdict.taken | false ↦ refused 3 (placeOf maxSteps (placed 1 t)) ])
     go true f = taken l t e (omega (arith, leb→le (length (placed 1 t)) maxSteps (so f), length-placed t 1))
     go false f = more t e (split-at t maxSteps (omega (arith, nleb→lt (length (placed 1 t)) maxSteps (rw f tt), length-placed t 1)))
 
@@ -121,7 +125,7 @@ too-many l h = rw (not-T (leb (length l) maxSteps) (λ x. omega (arith, leb→le
 wrong-only : (s : List ℕ) (p : ℕ) (r : Reading) → (QueryText s → ⊥) → DeadPlace QueryText s p → Tells root 0 s r → refused 2 p ≡ judged r
 unfolding judged
 wrong-only s p r f d (well a e) = absurd (f (sound s e))
-wrong-only s p r f d (ill q e g) = ap (refused 2) (dead-place-only d (dead-place s) ∙ sym (g ∙ omega arith))
+wrong-only s p r f d (ill q e g) = ap (refused 2) (dead-place-unique QueryText s d (dead-place s) ∙ sym (g ∙ omega arith))
 
 -- what the grounds say of a query is its verdict by computing
 pub query-says-only : (s : List ℕ) (v : Verdict) → QuerySays s v → v ≡ queryVerdict s
@@ -134,7 +138,8 @@ query-says-only s v (many l t x u e h) =
     ap (refused 3) (many-at t x u h))
 
 -- a query is taken exactly if it is in the grammar, has at most 1,024 bytes and at most 16 steps
-pub query-taken : (s : List ℕ) → (queryVerdict s ≡ Verdict.taken) ↔ ((length s ≤ maxQueryBytes) × (t : Query) × (text t ≡ s) × (length t ≤ maxSteps))
+pub query-taken : (s : List ℕ) → (queryVerdict s ≡ Verdict.taken) ↔
+    ((length s ≤ maxQueryBytes) × (t : Query) × (text t ≡ s) × (length t ≤ maxSteps))
 query-taken s = ((λ e. go (queryVerdict s) (querySays s) e), (λ x. sym (query-says-only s Verdict.taken (taken (x .0) (x .1) (x .2) (x .3)))))
   where
     go : (v : Verdict) → QuerySays s v → v ≡ Verdict.taken → (length s ≤ maxQueryBytes) × (t : Query) × (text t ≡ s) × (length t ≤ maxSteps)

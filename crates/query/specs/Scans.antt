@@ -62,7 +62,8 @@ pub record Moved (q : List ℕ) (at : ℕ) (ok : Bool) (r : ℕ) : Type 0 where
 -- one character of a shorthand name at `at`; not ok also where a byte below 80 ends the name
 pub record NameChar (q : List ℕ) (at : ℕ) (ok : Bool) (r : ℕ) : Type 0 where
   pub moved : Moved q at ok r
-  pub first : (d : Depth) → NoName d (getD q at 0) → (0x30 ≤ getD q at 0 → getD q at 0 ≤ 0x39 → ⊥) → reading (dotted d) at (drop at q) ≡ spelt q (inside short) at ok r
+  pub first : (d : Depth) → NoName d (getD q at 0) → (0x30 ≤ getD q at 0 → getD q at 0 ≤ 0x39 → ⊥) →
+      reading (dotted d) at (drop at q) ≡ spelt q (inside short) at ok r
   pub later : ok ≡ true → reading (inside short) at (drop at q) ≡ spelt q (inside short) at true r
   pub dead : ok ≡ false → 0x80 ≤ getD q at 0 → reading (inside short) at (drop at q) ≡ bad r
   pub over : ok ≡ false → getD q at 0 < 0x80 → reading (inside short) at (drop at q) ≡ reading done at (drop at q)

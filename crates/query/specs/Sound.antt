@@ -7,15 +7,18 @@ use Prim.Native.Nat.{ℕ, zero, suc}
 use native.Mathlib.Omega.{arith}
 use Rattle.encoding.specs.Bytes as B
 use Rattle.encoding.specs.Bytes.{In, Blank, Blanks, blankByte, putBlanks}
+use Rattle.encoding.specs.BytesLaws.{from-low, to-high}
 use Rattle.encoding.specs.Utf8 as U
 use Rattle.encoding.specs.Utf8.{Wide, putWide}
 use Rattle.query.specs.Grammar as G
 use Rattle.query.specs.Grammar.{First, Later, Quote, Char, quoteByte, Short, Inner, Depth, Segment, Query, QueryText}
 use Rattle.query.specs.Grammar.{putFirst, putLaters, putChar, putChars, putShort, putInner, putSegment, putSpaced, putQuery, text}
 use Rattle.query.specs.Machine as M
-use Rattle.query.specs.Machine.{Home, short, quoted, anyTail, secondLow, secondHigh, Control, root, done, gap, opened, closing, inside, tailDue, State, dead, at}
-use Rattle.query.specs.Machine.{Row, range, only, wideRows, letterRows, firstRows, stepRows, beginRows, dotRows, innerRows, charRows, rows, takes, pick, step, run, final, accept, start}
-use Rattle.query.specs.Rows.{so, in-low, in-high}
+use Rattle.query.specs.Machine.{Home, short, quoted, anyTail, secondLow, secondHigh, Control, root, done, gap, opened, closing}
+use Rattle.query.specs.Machine.{inside, tailDue, State, dead, at}
+use Rattle.query.specs.Machine.{Row, range, only, wideRows, letterRows, firstRows, stepRows, beginRows, dotRows, innerRows, charRows}
+use Rattle.query.specs.Machine.{rows, takes, pick, step, run, final, accept, start}
+use Rattle.query.specs.Rows.{so}
 
 -- what completes a query, by where the machine is
 
@@ -95,15 +98,17 @@ widen L K (r ∷ rs) g f = ((λ b s x. g (b .byte ∷ s) (f .0 b s x)), widen L 
 
 -- a row of one byte
 one : (n : ℕ) (c : Control) (L : List ℕ → Type 0) → ((s : List ℕ) → Rest c s → L (n ∷ s)) → Back L (only n c)
-one n c L f b s x = let e : b .byte ≡ n = omega (arith, in-low b, in-high b) in rw e (f s x)
+one n c L f b s x = let e : b .byte ≡ n = omega (arith, from-low b, to-high b) in rw e (f s x)
 
 -- blanks before what takes blanks
-back-blanks : (c : Control) (L : List ℕ → Type 0) (rs : List Row) → ((b : Blank) (s : List ℕ) → Rest c s → L (blankByte b ∷ s)) → Backs L rs → Backs L (M.blankRows c rs)
+back-blanks : (c : Control) (L : List ℕ → Type 0) (rs : List Row) → ((b : Blank) (s : List ℕ) → Rest c s → L (blankByte b ∷ s)) →
+    Backs L rs → Backs L (M.blankRows c rs)
 back-blanks c L rs f r =
     (one 0x20 c L (f B.space), (one 0x09 c L (f B.tab), (one 0x0A c L (f B.feed), (one 0x0D c L (f B.return), r))))
 
 -- a code point before what takes one
-back-wide : (h : Home) (L : List ℕ → Type 0) (rs : List Row) → ((p : Wide) (s : List ℕ) → Inside h s → L (putWide p s)) → Backs L rs → Backs L (wideRows h rs)
+back-wide : (h : Home) (L : List ℕ → Type 0) (rs : List Row) → ((p : Wide) (s : List ℕ) → Inside h s → L (putWide p s)) → Backs L rs →
+    Backs L (wideRows h rs)
 unfolding putWide
 back-wide h L rs f r =
     (c2-df, (e0, (e1-ec, (ed, (ee-ef, (f0, (f1-f3, (f4, r))))))))
@@ -133,7 +138,8 @@ back-wide h L rs f r =
     f4 b s (then y (then z (then {s = u} w x))) = f (U.f4 b y z w) u x
 
 -- a name's first character before the rest of a shorthand name
-back-first : (L : List ℕ → Type 0) (rs : List Row) → ((x : First) (s : List ℕ) → Shorthand s → L (putFirst x s)) → Backs L rs → Backs L (firstRows rs)
+back-first : (L : List ℕ → Type 0) (rs : List Row) → ((x : First) (s : List ℕ) → Shorthand s → L (putFirst x s)) → Backs L rs →
+    Backs L (firstRows rs)
 unfolding putFirst
 back-first L rs f r =
     back-wide short L (letterRows rs) (λ p s x. f (First.wide p) s x)
@@ -173,8 +179,10 @@ unfolding putShort
 dotted-star d s (steps t) = takes-short Short.star t
 
 back-dotted : (d : Depth) → Backs (Dotted d) (rows (M.dotted d))
-back-dotted G.plain = back-first (Dotted G.plain) (dotRows G.plain) (dotted-first G.plain) (one 0x2A done (Dotted G.plain) (dotted-star G.plain), (one 0x2E (M.dotted G.deep) (Dotted G.plain) (λ s x. deeper x), tt))
-back-dotted G.deep = back-first (Dotted G.deep) (dotRows G.deep) (dotted-first G.deep) (one 0x2A done (Dotted G.deep) (dotted-star G.deep), (one 0x5B opened (Dotted G.deep) (λ s x. brackets x), tt))
+back-dotted G.plain = back-first (Dotted G.plain) (dotRows G.plain) (dotted-first G.plain)
+    (one 0x2A done (Dotted G.plain) (dotted-star G.plain), (one 0x2E (M.dotted G.deep) (Dotted G.plain) (λ s x. deeper x), tt))
+back-dotted G.deep = back-first (Dotted G.deep) (dotRows G.deep) (dotted-first G.deep)
+    (one 0x2A done (Dotted G.deep) (dotted-star G.deep), (one 0x5B opened (Dotted G.deep) (λ s x. brackets x), tt))
 
 done-shorthand : (s : List ℕ) → Done s → Shorthand s
 unfolding putLaters
@@ -221,8 +229,13 @@ quote-quoted q s x = chars [] x
 back-quoted : (q : Quote) → Backs (Quoted q) (rows (inside (quoted q)))
 unfolding putChar
 back-quoted q =
-    back-wide (quoted q) (Quoted q) (charRows q) (λ p s x. char-quoted q (Char.wide p) s x)
-    ((λ b s x. char-quoted q (G.low b) s x), ((λ b s x. char-quoted q (G.mid b) s x), ((λ b s x. char-quoted q (G.high b) s x), (one (quoteByte q) closing (Quoted q) (quote-quoted q), tt))))
+    back-wide (quoted q) (Quoted q) (charRows q) (λ p s x. char-quoted q (Char.wide p) s x) (
+      (λ b s x. char-quoted q (G.low b) s x),
+      (
+        (λ b s x. char-quoted q (G.mid b) s x),
+        ((λ b s x. char-quoted q (G.high b) s x), (one (quoteByte q) closing (Quoted q) (quote-quoted q), tt)),
+      ),
+    )
 
 root-done : (s : List ℕ) → Done s → Root (0x24 ∷ s)
 root-done s (steps t) = begins t
@@ -233,10 +246,16 @@ back done = widen Gap Done beginRows gap-done back-gap
 back gap = back-gap
 back (M.dotted d) = back-dotted d
 back opened =
-    back-blanks opened Opened innerRows blank-opened
-    (one 0x2A closing Opened opened-star, (one 0x27 (inside (quoted G.single)) Opened (opened-quote G.single), (one 0x22 (inside (quoted G.double)) Opened (opened-quote G.double), tt)))
+    back-blanks opened Opened innerRows blank-opened (
+      one 0x2A closing Opened opened-star,
+      (
+        one 0x27 (inside (quoted G.single)) Opened (opened-quote G.single),
+        (one 0x22 (inside (quoted G.double)) Opened (opened-quote G.double), tt),
+      ),
+    )
 back closing = back-blanks closing Closing (only 0x5D done ∷ []) blank-closing (one 0x5D done Closing closing-done, tt)
-back (inside short) = back-first Shorthand (range 0x30 0x39 (inside short) ∷ beginRows) shorthand-first (shorthand-digit, widen Gap Shorthand beginRows (λ s x. done-shorthand s (gap-done s x)) back-gap)
+back (inside short) = back-first Shorthand (range 0x30 0x39 (inside short) ∷ beginRows) shorthand-first
+    (shorthand-digit, widen Gap Shorthand beginRows (λ s x. done-shorthand s (gap-done s x)) back-gap)
 back (inside (quoted q)) = back-quoted q
 back (tailDue p zero h) = ((λ b s x. then b x), tt)
 back (tailDue p (suc n) h) = ((λ b s x. then b x), tt)

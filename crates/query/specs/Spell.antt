@@ -14,7 +14,9 @@ use Rattle.query.specs.Grammar as G
 use Rattle.query.specs.Grammar.{First, Later, Quote, Char}
 use Rattle.query.specs.Grammar.{putFirst, putLater, putLaters, putChar, putChars}
 use Rattle.query.specs.Machine as M
-use Rattle.query.specs.Machine.{Home, short, quoted, Second, anyTail, afterE0, afterED, afterF0, afterF4, secondLow, secondHigh, Control, root, done, gap, opened, closing, inside, tailDue, State, dead, at, Row, range, rows, wideRows, firstRows, tailsDue, step}
+use Rattle.query.specs.Machine.{Home, short, quoted, Second, anyTail, afterE0, afterED, afterF0, afterF4, secondLow, secondHigh}
+use Rattle.query.specs.Machine.{Control, root, done, gap, opened, closing, inside, tailDue, State, dead, at, Row, range, rows}
+use Rattle.query.specs.Machine.{wideRows, firstRows, tailsDue, step}
 use Rattle.query.specs.Read as R
 use Rattle.query.specs.Read.{Event, keep, begin, letter, isDotted, isOpened, event, Placed, named, Reading, good, bad, note, reading}
 use Rattle.query.specs.Rows.{of-T, hit, landing, leads-in}
@@ -69,7 +71,8 @@ spells-cons c k l b w e f g n u =
 
 pub spells-append : (c k l : Control) (v w : List ℕ) → Spells c v k → Spells k w l → Spells c (v ++ w) l
 spells-append c k l v w f g n u =
-    ap (reading c n) (append-assoc v w u) ∙ f n (w ++ u) ∙ ap (spell v) (g (n + length v) u) ∙ sym (spell-append v w (reading l (n + length v + length w) u)) ∙
+    ap (reading c n) (append-assoc v w u) ∙ f n (w ++ u) ∙ ap (spell v) (g (n + length v) u) ∙
+    sym (spell-append v w (reading l (n + length v + length w) u)) ∙
     ap (spell (v ++ w)) (moved l (n + length v + length w) (n + length (v ++ w)) u (omega (arith, length-append v w)))
 
 -- code points
@@ -78,14 +81,16 @@ tail : (p : Second) (m : ℕ) (h : Home) (x : In (secondLow p) (secondHigh p)) �
 unfolding step
 tail p m h x = hit (range (secondLow p) (secondHigh p) (tailsDue m h)) [] (x .byte) (of-T _ (x .ok))
 
-pub spells-tail : (p : Second) (h : Home) (x : In (secondLow p) (secondHigh p)) → Spells (tailDue p 0 h) (x .byte ∷ []) (inside h)
-spells-tail p h x = spells-cons _ (inside h) (inside h) (x .byte) [] (tail p 0 h x) refl (spells-nil (inside h))
+pub spells-last : (p : Second) (h : Home) (x : In (secondLow p) (secondHigh p)) → Spells (tailDue p 0 h) (x .byte ∷ []) (inside h)
+spells-last p h x = spells-cons _ (inside h) (inside h) (x .byte) [] (tail p 0 h x) refl (spells-nil (inside h))
 
-pub spells-tails : (p : Second) (h : Home) (x : In (secondLow p) (secondHigh p)) (y : Tail) → Spells (tailDue p 1 h) (x .byte ∷ y .byte ∷ []) (inside h)
-spells-tails p h x y = spells-cons _ (tailDue anyTail 0 h) (inside h) (x .byte) _ (tail p 1 h x) refl (spells-tail anyTail h y)
+pub spells-last-two : (p : Second) (h : Home) (x : In (secondLow p) (secondHigh p)) (y : Tail) →
+    Spells (tailDue p 1 h) (x .byte ∷ y .byte ∷ []) (inside h)
+spells-last-two p h x y = spells-cons _ (tailDue anyTail 0 h) (inside h) (x .byte) _ (tail p 1 h x) refl (spells-last anyTail h y)
 
-pub spells-tails′ : (p : Second) (h : Home) (x : In (secondLow p) (secondHigh p)) (y z : Tail) → Spells (tailDue p 2 h) (x .byte ∷ y .byte ∷ z .byte ∷ []) (inside h)
-spells-tails′ p h x y z = spells-cons _ (tailDue anyTail 1 h) (inside h) (x .byte) _ (tail p 2 h x) refl (spells-tails anyTail h y z)
+pub spells-last-three : (p : Second) (h : Home) (x : In (secondLow p) (secondHigh p)) (y z : Tail) →
+    Spells (tailDue p 2 h) (x .byte ∷ y .byte ∷ z .byte ∷ []) (inside h)
+spells-last-three p h x y z = spells-cons _ (tailDue anyTail 1 h) (inside h) (x .byte) _ (tail p 2 h x) refl (spells-last-two anyTail h y z)
 
 module _ (c : Control) (h : Home) (rs : List Row) (e : rows c ≡ wideRows h rs) where
   lead : {lo hi : ℕ} (x : In lo hi) (k : Control) → landing lo hi (wideRows h rs) ≡ some (at k) → step (at c) (x .byte) ≡ at k
@@ -93,25 +98,27 @@ module _ (c : Control) (h : Home) (rs : List Row) (e : rows c ≡ wideRows h rs)
 
   pub spells-wide : (p : Wide) → Spells c (putWide p []) (inside h)
   unfolding putWide landing
-  spells-wide (U.c2-df x y) = spells-cons c _ _ _ _ (lead x (tailDue anyTail 0 h) refl) refl (spells-tail anyTail h y)
-  spells-wide (U.e0 x y z) = spells-cons c _ _ _ _ (lead x (tailDue afterE0 1 h) refl) refl (spells-tails afterE0 h y z)
-  spells-wide (U.e1-ec x y z) = spells-cons c _ _ _ _ (lead x (tailDue anyTail 1 h) refl) refl (spells-tails anyTail h y z)
-  spells-wide (U.ed x y z) = spells-cons c _ _ _ _ (lead x (tailDue afterED 1 h) refl) refl (spells-tails afterED h y z)
-  spells-wide (U.ee-ef x y z) = spells-cons c _ _ _ _ (lead x (tailDue anyTail 1 h) refl) refl (spells-tails anyTail h y z)
-  spells-wide (U.f0 x y z w) = spells-cons c _ _ _ _ (lead x (tailDue afterF0 2 h) refl) refl (spells-tails′ afterF0 h y z w)
-  spells-wide (U.f1-f3 x y z w) = spells-cons c _ _ _ _ (lead x (tailDue anyTail 2 h) refl) refl (spells-tails′ anyTail h y z w)
-  spells-wide (U.f4 x y z w) = spells-cons c _ _ _ _ (lead x (tailDue afterF4 2 h) refl) refl (spells-tails′ afterF4 h y z w)
+  spells-wide (U.c2-df x y) = spells-cons c _ _ _ _ (lead x (tailDue anyTail 0 h) refl) refl (spells-last anyTail h y)
+  spells-wide (U.e0 x y z) = spells-cons c _ _ _ _ (lead x (tailDue afterE0 1 h) refl) refl (spells-last-two afterE0 h y z)
+  spells-wide (U.e1-ec x y z) = spells-cons c _ _ _ _ (lead x (tailDue anyTail 1 h) refl) refl (spells-last-two anyTail h y z)
+  spells-wide (U.ed x y z) = spells-cons c _ _ _ _ (lead x (tailDue afterED 1 h) refl) refl (spells-last-two afterED h y z)
+  spells-wide (U.ee-ef x y z) = spells-cons c _ _ _ _ (lead x (tailDue anyTail 1 h) refl) refl (spells-last-two anyTail h y z)
+  spells-wide (U.f0 x y z w) = spells-cons c _ _ _ _ (lead x (tailDue afterF0 2 h) refl) refl (spells-last-three afterF0 h y z w)
+  spells-wide (U.f1-f3 x y z w) = spells-cons c _ _ _ _ (lead x (tailDue anyTail 2 h) refl) refl (spells-last-three anyTail h y z w)
+  spells-wide (U.f4 x y z w) = spells-cons c _ _ _ _ (lead x (tailDue afterF4 2 h) refl) refl (spells-last-three afterF4 h y z w)
 
 -- names
 
 -- a byte of a range that is a letter by itself
-spells-byte : (c : Control) (h : Home) {lo hi : ℕ} (x : In lo hi) → landing lo hi (rows c) ≡ some (at (inside h)) → event c (inside h) ≡ letter → Spells c (x .byte ∷ []) (inside h)
+spells-byte : (c : Control) (h : Home) {lo hi : ℕ} (x : In lo hi) → landing lo hi (rows c) ≡ some (at (inside h)) →
+    event c (inside h) ≡ letter → Spells c (x .byte ∷ []) (inside h)
 spells-byte c h x e f = spells-cons c (inside h) (inside h) (x .byte) [] (leads-in c x (at (inside h)) e) f (spells-nil (inside h))
 
 line : In 0x5F 0x5F
 line = record { byte = 0x5F; ok = tt }
 
-pub spells-first : (c : Control) (rs : List Row) → rows c ≡ firstRows rs → event c (inside short) ≡ letter → (x : First) → Spells c (putFirst x []) (inside short)
+pub spells-first : (c : Control) (rs : List Row) → rows c ≡ firstRows rs → event c (inside short) ≡ letter → (x : First) →
+    Spells c (putFirst x []) (inside short)
 unfolding putFirst landing line
 spells-first c rs e f (G.upper x) = spells-byte c short x (rw e refl) f
 spells-first c rs e f (G.lower x) = spells-byte c short x (rw e refl) f
@@ -126,7 +133,8 @@ spells-later (G.digit x) = spells-byte (inside short) short x refl refl
 pub spells-laters : (cs : List Later) → Spells (inside short) (putLaters cs []) (inside short)
 unfolding putLaters
 spells-laters [] = spells-nil (inside short)
-spells-laters (c ∷ cs) = rw (append-later c [] (putLaters cs [])) (spells-append _ (inside short) _ (putLater c []) (putLaters cs []) (spells-later c) (spells-laters cs))
+spells-laters (c ∷ cs) = rw (append-later c [] (putLaters cs []))
+    (spells-append _ (inside short) _ (putLater c []) (putLaters cs []) (spells-later c) (spells-laters cs))
 
 pub spells-char : (q : Quote) (c : Char q) → Spells (inside (quoted q)) (putChar c []) (inside (quoted q))
 unfolding putChar landing
@@ -142,7 +150,8 @@ spells-char G.double (Char.wide p) = spells-wide (inside (quoted G.double)) (quo
 pub spells-chars : (q : Quote) (cs : List (Char q)) → Spells (inside (quoted q)) (putChars cs []) (inside (quoted q))
 unfolding putChars
 spells-chars q [] = spells-nil (inside (quoted q))
-spells-chars q (c ∷ cs) = rw (append-char c [] (putChars cs [])) (spells-append _ (inside (quoted q)) _ (putChar c []) (putChars cs []) (spells-char q c) (spells-chars q cs))
+spells-chars q (c ∷ cs) = rw (append-char c [] (putChars cs []))
+    (spells-append _ (inside (quoted q)) _ (putChar c []) (putChars cs []) (spells-char q c) (spells-chars q cs))
 
 -- two control states that lead on alike
 
@@ -157,7 +166,8 @@ event-alike c d p q closing = ap (λ (x : Bool). elim x as (λ _. Event) [ true 
 event-alike c d p q (inside h) = ap (λ (x : Bool). elim x as (λ _. Event) [ true ↦ keep | false ↦ letter ]) q
 event-alike c d p q (tailDue z m h) = refl
 
-pub alike : (c d : Control) → isDotted c ≡ isDotted d → isOpened c ≡ isOpened d → (n b : ℕ) (s : List ℕ) → step (at c) b ≡ step (at d) b → reading c n (b ∷ s) ≡ reading d n (b ∷ s)
+pub alike : (c d : Control) → isDotted c ≡ isDotted d → isOpened c ≡ isOpened d → (n b : ℕ) (s : List ℕ) → step (at c) b ≡ step (at d) b →
+    reading c n (b ∷ s) ≡ reading d n (b ∷ s)
 alike c d p q n b s e = go (step (at d) b) e refl
   where
     go : (m : State) → step (at c) b ≡ m → step (at d) b ≡ m → reading c n (b ∷ s) ≡ reading d n (b ∷ s)
@@ -178,11 +188,13 @@ note-keep n b (bad p) = refl
 pub kept : (c k : Control) (n b : ℕ) (s : List ℕ) → step (at c) b ≡ at k → event c k ≡ keep → reading c n (b ∷ s) ≡ reading k (suc n) s
 kept c k n b s e f = turn c k n b s e ∙ ap (λ (x : Event). note x n b (reading k (suc n) s)) f ∙ note-keep n b (reading k (suc n) s)
 
-pub reads-blanks : (c : Control) → ((b : Blank) → step (at c) (blankByte b) ≡ at c) → event c c ≡ keep → (w : Blanks) (n : ℕ) (u : List ℕ) → reading c n (putBlanks w u) ≡ reading c (n + length w) u
+pub reads-blanks : (c : Control) → ((b : Blank) → step (at c) (blankByte b) ≡ at c) → event c c ≡ keep → (w : Blanks) (n : ℕ) (u : List ℕ) →
+    reading c n (putBlanks w u) ≡ reading c (n + length w) u
 unfolding putBlanks
 reads-blanks c f e [] n u = moved c n (n + 0) u (omega arith)
 reads-blanks c f e (b ∷ w) n u =
-    kept c c n (blankByte b) (putBlanks w u) (f b) e ∙ reads-blanks c f e w (suc n) u ∙ moved c (suc n + length w) (n + suc (length w)) u (omega arith)
+    kept c c n (blankByte b) (putBlanks w u) (f b) e ∙ reads-blanks c f e w (suc n) u ∙
+    moved c (suc n + length w) (n + suc (length w)) u (omega arith)
 
 pub blank-gap : (b : Blank) → step (at gap) (blankByte b) ≡ at gap
 unfolding step

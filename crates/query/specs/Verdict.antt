@@ -1,4 +1,5 @@
--- Grounds 1 to 3 of a query's bytes with their places, and its steps, by computing; and what each ground says (document 01, "Grounds for refusing").
+-- Grounds 1 to 3 of a query's bytes with their places, and its steps, by computing; and what each ground says (document 01, "Grounds for
+-- refusing").
 use mathlib.Core.Path.{_≡_}
 use mathlib.Core.List.{List, _∷_, _++_, map}
 use mathlib.Core.Bool.{true, false}

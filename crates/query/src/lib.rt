@@ -50,9 +50,9 @@ fn too_many(rows: &[u8; 45], query: &[u8], place: usize, at: usize) -> Outcome
 {
     let mut i = at;
     while i < query.len() {
-        let read = step::read_step(rows, query, i);
-        let StepRead::Taken(_, after) = read else {
-            return refuse(WRONG, step::place_of(read));
+        let next = step::read_step(rows, query, i);
+        let StepRead::Taken(_, after) = next else {
+            return refuse(WRONG, step::place_of(next));
         };
         i = after;
     }

@@ -108,13 +108,13 @@ fn first_char(rows: &[u8; 45], query: &[u8], at: usize) -> Scan
     ensures { λ r. ⌜ FirstChar (now (query .entry)) at (r .ok) (r .at) ⌝ }
 {
     let b = query[at];
-    if b < b'0' {
-        return name_char(rows, query, at);
-    }
     if b > b'9' {
         return name_char(rows, query, at);
     }
-    Scan { ok: false, at }
+    if b >= b'0' {
+        return Scan { ok: false, at };
+    }
+    name_char(rows, query, at)
 }
 
 // The shorthand name at `at`: ok and the place after it, or not ok and the place of the dead byte.

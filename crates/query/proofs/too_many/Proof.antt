@@ -21,8 +21,8 @@ loop-holds c = record { within = c .before .pre .0; same = refl }
 read-step-requires : tie.Need-read-step-requires Inv-loop μ-loop
 read-step-requires c κs = search needs
 
-enum-known-read : tie.Need-enum-known-read Inv-loop μ-loop
-enum-known-read c = search needs
+enum-known-next : tie.Need-enum-known-next Inv-loop μ-loop
+enum-known-next c = search needs
 
 enum-told : tie.Need-enum-told Inv-loop μ-loop
 enum-told c = search needs
@@ -34,13 +34,16 @@ refuse-requires : tie.Need-refuse-requires Inv-loop μ-loop
 refuse-requires c κs = search needs
 
 returns : tie.Need-returns Inv-loop μ-loop
-returns c = overflow-refused (c .before .before .before .before .before .before .loop .inv) (c .before .before .before .before .read-step .ensures) (c .before .before .before .match .keys2) (c .before .place-of .ensures) (c .refuse .ensures)
+returns c = overflow-refused (c .before .before .before .before .before .before .loop .inv)
+    (c .before .before .before .before .read-step .ensures) (c .before .before .before .match .keys2) (c .before .place-of .ensures)
+    (c .refuse .ensures)
 
 loop-less : tie.Need-loop-less Inv-loop μ-loop
-loop-less c = let t = step-taken (c .before .before .before .read-step .ensures) (c .before .read .given .1) in omega (arith, t .on, t .within)
+loop-less c = let t = step-taken (c .before .before .before .read-step .ensures) (c .before .next .given .1) in omega (arith, t .on, t .within)
 
 loop-again : tie.Need-loop-again Inv-loop μ-loop
-loop-again c = overflow-on (c .before .before .before .before .before .loop .inv) (step-taken (c .before .before .before .read-step .ensures) (c .before .read .given .1))
+loop-again c = overflow-on (c .before .before .before .before .before .loop .inv)
+    (step-taken (c .before .before .before .read-step .ensures) (c .before .next .given .1))
 
 refuse-requires-2 : tie.Need-refuse-requires-2 Inv-loop μ-loop
 refuse-requires-2 c κs = search needs
@@ -56,7 +59,7 @@ too-many-spec =
     μ-loop
     loop-holds
     read-step-requires
-    enum-known-read
+    enum-known-next
     enum-told
     place-of-requires
     refuse-requires

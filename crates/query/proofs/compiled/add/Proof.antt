@@ -39,7 +39,8 @@ with-bit-requires-3 : tie.Need-with-bit-requires-3
 with-bit-requires-3 c κs = search needs
 
 returns : tie.Need-returns
-returns c = λ q x w b. holds-more q x _ _ _ _ _ (c .before .before .before .before .before .before .pre .0) w b (c .before .before .before .with-bit .ensures) (c .before .before .with-bit2 .ensures) (c .with-bit3 .ensures)
+returns c = λ q x w b. holds-more q x _ _ _ _ _ (c .before .before .before .before .before .before .pre .0) w b
+    (c .before .before .before .with-bit .ensures) (c .before .before .with-bit2 .ensures) (c .with-bit3 .ensures)
 
 pub add-spec : {M : Type 1} → statement M
 add-spec =

@@ -15,14 +15,14 @@ name-char-requires c κs = search needs
 returns : tie.Need-returns
 returns c = first-char (c .name-char .ensures) (λ l h. omega arith)
 
+returns-2 : tie.Need-returns-2
+returns-2 c = no-first-digit _ _ (c .before .before .before .before .pre .0) (c .if2 .taken) (c .before .if1 .left)
+
 name-char-requires-2 : tie.Need-name-char-requires-2
 name-char-requires-2 c κs = search needs
 
-returns-2 : tie.Need-returns-2
-returns-2 c = first-char (c .name-char2 .ensures) (λ l h. omega arith)
-
 returns-3 : tie.Need-returns-3
-returns-3 c = no-first-digit _ _ (c .before .before .before .before .pre .0) (c .before .if1 .left) (c .if2 .left)
+returns-3 c = first-char (c .name-char2 .ensures) (λ l h. omega arith)
 
 pub first-char-spec : {M : Type 1} → statement M
 first-char-spec =
@@ -31,6 +31,6 @@ first-char-spec =
     shared-slice-read-b
     name-char-requires
     returns
-    name-char-requires-2
     returns-2
+    name-char-requires-2
     returns-3)

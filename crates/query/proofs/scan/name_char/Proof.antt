@@ -24,7 +24,8 @@ returns-2 : tie.Need-returns-2
 returns-2 c = name-on _ _ (c .before .before .before .before .before .pre .0) (c .before .is-name-byte .ensures) (c .if2 .taken)
 
 returns-3 : tie.Need-returns-3
-returns-3 c = name-off _ _ (c .before .before .before .before .before .pre .0) (c .before .is-name-byte .ensures) (c .if2 .left) (c .before .before .if1 .left)
+returns-3 c = name-off _ _ (c .before .before .before .before .before .pre .0) (c .before .is-name-byte .ensures) (c .if2 .left)
+    (c .before .before .if1 .left)
 
 pub name-char-spec : {M : Type 1} → statement M
 name-char-spec =

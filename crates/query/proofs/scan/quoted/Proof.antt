@@ -28,13 +28,16 @@ quoted-char-requires : tie.Need-quoted-char-requires Inv-loop μ-loop
 quoted-char-requires c κs = search needs
 
 returns-2 : tie.Need-returns-2 Inv-loop μ-loop
-returns-2 c = quoted-dead (c .before .before .before .before .before .before .loop .inv) (c .before .before .before .if1 .left) (c .before .before .quoted-char .ensures) (not-true _ (c .if2 .taken))
+returns-2 c = quoted-dead (c .before .before .before .before .before .before .loop .inv) (c .before .before .before .if1 .left)
+    (c .before .before .quoted-char .ensures) (not-true _ (c .if2 .taken))
 
 loop-less : tie.Need-loop-less Inv-loop μ-loop
-loop-less c = let m = c .before .before .quoted-char .ensures .moved .on (not-false _ (c .if2 .left)) in let w = c .before .before .quoted-char .ensures .moved .within in omega arith
+loop-less c = let m = c .before .before .quoted-char .ensures .moved .on (not-false _ (c .if2 .left)) in let w =
+    c .before .before .quoted-char .ensures .moved .within in omega arith
 
 loop-again : tie.Need-loop-again Inv-loop μ-loop
-loop-again c = quoted-goes-on (c .before .before .before .before .before .before .loop .inv) (c .before .before .before .if1 .left) (c .before .before .quoted-char .ensures) (not-false _ (c .if2 .left))
+loop-again c = quoted-goes-on (c .before .before .before .before .before .before .loop .inv) (c .before .before .before .if1 .left)
+    (c .before .before .quoted-char .ensures) (not-false _ (c .if2 .left))
 
 returns-3 : tie.Need-returns-3 Inv-loop μ-loop
 returns-3 c = quoted-open (c .before .loop .inv) (c .loop-test .left)

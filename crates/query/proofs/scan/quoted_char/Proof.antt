@@ -24,7 +24,8 @@ add-t8 : tie.Need-add-t8
 add-t8 c = search needs
 
 returns-4 : tie.Need-returns-4
-returns-4 c = quoted-letter _ _ (c .before .before .before .before .before .pre .0) (c .before .if2 .left) (c .before .before .if1 .left) (c .if3 .left)
+returns-4 c = quoted-letter _ _ (c .before .before .before .before .before .pre .0) (c .before .if2 .left) (c .before .before .if1 .left)
+    (c .if3 .left)
 
 pub quoted-char-spec : {M : Type 1} → statement M
 quoted-char-spec =

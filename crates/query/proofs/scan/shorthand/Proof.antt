@@ -31,13 +31,16 @@ shared-slice-read-if3 : tie.Need-shared-slice-read-if3 Inv-loop μ-loop
 shared-slice-read-if3 c = search needs
 
 returns-2 : tie.Need-returns-2 Inv-loop μ-loop
-returns-2 c = short-over (c .before .before .before .before .before .before .loop .inv) (c .before .before .before .before .name-char .ensures) (not-true _ (c .before .before .if2 .taken)) (c .if3 .taken)
+returns-2 c = short-over (c .before .before .before .before .before .before .loop .inv)
+    (c .before .before .before .before .name-char .ensures) (not-true _ (c .before .before .if2 .taken)) (c .if3 .taken)
 
 returns-3 : tie.Need-returns-3 Inv-loop μ-loop
-returns-3 c = short-wide-dead (c .before .before .before .before .before .before .loop .inv) (c .before .before .before .before .name-char .ensures) (not-true _ (c .before .before .if2 .taken)) (c .if3 .left)
+returns-3 c = short-wide-dead (c .before .before .before .before .before .before .loop .inv)
+    (c .before .before .before .before .name-char .ensures) (not-true _ (c .before .before .if2 .taken)) (c .if3 .left)
 
 loop-less : tie.Need-loop-less Inv-loop μ-loop
-loop-less c = let m = c .before .before .name-char .ensures .moved .on (not-false _ (c .if2 .left)) in let w = c .before .before .name-char .ensures .moved .within in omega arith
+loop-less c = let m = c .before .before .name-char .ensures .moved .on (not-false _ (c .if2 .left)) in let w =
+    c .before .before .name-char .ensures .moved .within in omega arith
 
 loop-again : tie.Need-loop-again Inv-loop μ-loop
 loop-again c = short-goes-on (c .before .before .before .before .loop .inv) (c .before .before .name-char .ensures) (not-false _ (c .if2 .left))

@@ -34,7 +34,8 @@ loop-less : tie.Need-loop-less Inv-loop μ-loop
 loop-less c = omega arith
 
 loop-again : tie.Need-loop-again Inv-loop μ-loop
-loop-again c = one-more (c .before .before .before .before .loop .inv) (c .before .before .before .loop-test .taken) (c .before .is-blank .ensures) (not-false _ (c .if1 .left))
+loop-again c = one-more (c .before .before .before .before .loop .inv) (c .before .before .before .loop-test .taken)
+    (c .before .is-blank .ensures) (not-false _ (c .if1 .left))
 
 returns-2 : tie.Need-returns-2 Inv-loop μ-loop
 returns-2 c = all-blanks (c .before .loop .inv) (c .loop-test .left)

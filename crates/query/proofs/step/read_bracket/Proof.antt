@@ -23,7 +23,8 @@ close-requires : tie.Need-close-requires
 close-requires c κs = search needs
 
 returns-2 : tie.Need-returns-2
-returns-2 c = opened-every (c .before .before .before .before .skip-blanks .ensures) (c .before .before .before .if1 .left) (c .before .if2 .taken) (c .close .ensures)
+returns-2 c = opened-every (c .before .before .before .before .skip-blanks .ensures) (c .before .before .before .if1 .left)
+    (c .before .if2 .taken) (c .close .ensures)
 
 add-read-quoted : tie.Need-add-read-quoted
 add-read-quoted c = search needs
@@ -32,7 +33,8 @@ read-quoted-requires : tie.Need-read-quoted-requires
 read-quoted-requires c κs = search needs
 
 returns-3 : tie.Need-returns-3
-returns-3 c = opened-quote (c .before .before .before .before .before .skip-blanks .ensures) (c .before .before .before .before .if1 .left) G.single (c .before .if3 .taken) (c .read-quoted .ensures G.single refl)
+returns-3 c = opened-quote (c .before .before .before .before .before .skip-blanks .ensures)
+    (c .before .before .before .before .if1 .left) G.single (c .before .if3 .taken) (c .read-quoted .ensures G.single refl)
 
 add-read-quoted-2 : tie.Need-add-read-quoted-2
 add-read-quoted-2 c = search needs
@@ -41,10 +43,12 @@ read-quoted-requires-2 : tie.Need-read-quoted-requires-2
 read-quoted-requires-2 c κs = search needs
 
 returns-4 : tie.Need-returns-4
-returns-4 c = opened-quote (c .before .before .before .before .before .before .skip-blanks .ensures) (c .before .before .before .before .before .if1 .left) G.double (c .before .if4 .taken) (c .read-quoted2 .ensures G.double refl)
+returns-4 c = opened-quote (c .before .before .before .before .before .before .skip-blanks .ensures)
+    (c .before .before .before .before .before .if1 .left) G.double (c .before .if4 .taken) (c .read-quoted2 .ensures G.double refl)
 
 returns-5 : tie.Need-returns-5
-returns-5 c = opened-other (c .before .before .before .before .before .skip-blanks .ensures) (c .before .before .before .before .if1 .left) (c .before .before .if2 .left) (c .before .if3 .left) (c .if4 .left)
+returns-5 c = opened-other (c .before .before .before .before .before .skip-blanks .ensures) (c .before .before .before .before .if1 .left)
+    (c .before .before .if2 .left) (c .before .if3 .left) (c .if4 .left)
 
 pub read-bracket-spec : {M : Type 1} → statement M
 read-bracket-spec =

@@ -21,10 +21,12 @@ shorthand-requires : tie.Need-shorthand-requires
 shorthand-requires c κs = search needs
 
 returns-3 : tie.Need-returns-3
-returns-3 c = short-refused (c .before .before .before .if2 .left) (c .before .before .before .before .before .before .before .pre .2) (c .before .before .shorthand .ensures) (not-true _ (c .if3 .taken))
+returns-3 c = short-refused (c .before .before .before .if2 .left) (c .before .before .before .before .before .before .before .pre .2)
+    (c .before .before .shorthand .ensures) (not-true _ (c .if3 .taken))
 
 returns-4 : tie.Need-returns-4
-returns-4 c = short-taken (c .before .before .before .if2 .left) (c .before .before .before .before .before .before .before .pre .2) (c .before .before .shorthand .ensures) (not-false _ (c .if3 .left))
+returns-4 c = short-taken (c .before .before .before .if2 .left) (c .before .before .before .before .before .before .before .pre .2)
+    (c .before .before .shorthand .ensures) (not-false _ (c .if3 .left))
 
 pub read-short-spec : {M : Type 1} → statement M
 read-short-spec =
