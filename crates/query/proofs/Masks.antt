@@ -2,18 +2,14 @@
 use mathlib.Core.Path.{_≡_, refl, ap, sym, subst, _∙_}
 use mathlib.Core.List.{List, [], _∷_, _++_}
 use mathlib.Core.Bool.{Bool, true, false, not, _&&_, _||_}
-use mathlib.Core.Logic.{_⊎_, inl, inr}
 use mathlib.Core.Option.{Option, some, none}
-use Prim.Native.Nat.{ℕ, zero, suc, _+_, _*_, _^_, _%_, _≤_, _<_}
-use native.Mathlib.Nat.{mod-lt}
+use Prim.Native.Nat.{ℕ, zero, suc, _+_, _≤_, _<_}
 use native.Mathlib.Omega.{arith}
-use borrow.Author.Tests.{eqb-true, eqb-false, ne-eqb}
-use lib.Bits.{bitOr}
-use lib.Dec.{T, eqb, lit<}
+use borrow.Author.Tests.{eqb-true, eqb-false}
+use lib.Dec.{T, eqb}
 use lib.ListN.{length, getD, set, getElem?, length-append, length-set}
 use lib.Seq.{getD-set-same, getD-set-other, slice, slice-empty}
 use Rattle.bits.specs.Bits.{bit}
-use Rattle.bits.specs.Laws.{lt-or-ge, bit-or, bit-high, bit-single}
 use Rattle.query.specs.declared.step.Found.{Found}
 use Rattle.query.specs.declared.compiled.Compiled.{Compiled}
 use Rattle.query.specs.Steps.{Step}
@@ -21,21 +17,6 @@ use Rattle.query.specs.Read.{nameBytes}
 use Rattle.query.specs.Verdict.{maxSteps}
 use Rattle.query.specs.Reader.{selectorAt, placedAt, Bounded}
 use Rattle.query.specs.Holds.{isEvery, isNamed, deepAt, everyAt, namedAt, nameAt, Holds}
-
--- the number with bit n alone
-one-bit : (n i : ℕ) → n < maxSteps → bit i (1 * 2 ^ n % 2 ^ 16) ≡ eqb i n
-one-bit n i h = go (lt-or-ge i 16)
-  where
-    go : (i < 16) ⊎ (16 ≤ i) → bit i (1 * 2 ^ n % 2 ^ 16) ≡ eqb i n
-    go (inl l) = bit-single 16 n i l
-    go (inr l) = bit-high 16 i (1 * 2 ^ n % 2 ^ 16) (mod-lt (1 * 2 ^ n) (lit< tt)) l ∙ sym (ne-eqb i n (λ e. omega arith))
-
-pub with-law : (m n i : ℕ) → n < maxSteps → bit i (bitOr m (1 * 2 ^ n % 2 ^ 16)) ≡ (bit i m || (true && eqb i n))
-with-law m n i h = bit-or i m (1 * 2 ^ n % 2 ^ 16) ∙ ap (λ (b : Bool). bit i m || b) (one-bit n i h)
-
-pub or-false : (b : Bool) → b ≡ (b || false)
-or-false true = refl
-or-false false = refl
 
 -- the elements of a list with one more
 module _ (s : Step) where

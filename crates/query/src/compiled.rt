@@ -2,10 +2,7 @@
 use super::step::Found;
 ghost use mathlib.Core.Path.{_≡_};
 ghost use mathlib.Core.List.{List, [], _∷_, _++_};
-ghost use mathlib.Core.Bool.{_||_, _&&_};
 ghost use Prim.Native.Nat.{ℕ, _<_, _≤_};
-ghost use lib.Dec.{eqb};
-ghost use Rattle.bits.specs.Bits.{bit};
 ghost use Rattle.query.specs.Steps.{Step};
 ghost use Rattle.query.specs.Verdict.{maxSteps, maxQueryBytes};
 ghost use Rattle.query.specs.Reader.{Bounded, placedAt};
@@ -38,30 +35,18 @@ pub fn no_steps() -> Compiled
     }
 }
 
-// The mask with bit `n` too, if it is to be on.
-fn with_bit(mask: u16, n: u16, on: bool) -> u16
-    requires { ⌜ n < maxSteps ⌝ }
-    ensures { λ r. ⌜ ((i : ℕ) → bit i r ≡ (bit i mask || (on && eqb i n))) ⌝ }
-{
-    if on {
-        return mask | 1 << n;
-    }
-    mask
-}
-
 // The steps with one more, for which there is room.
 pub fn add(steps: Compiled, found: Found) -> Compiled
     requires { ⌜ (steps .count < maxSteps) × (found .start ≤ maxQueryBytes) × (found .end ≤ maxQueryBytes) ⌝ }
     ensures { λ r. ⌜ ((q : List ℕ) (x : List Step) → Holds q x steps → Bounded q found → Holds q (x ++ placedAt q found .step ∷ []) r) ⌝ }
 {
     let k = steps.count;
-    let n = k as u16;
     let mut more = steps;
     more.count = k + 1;
     more.starts[k] = found.start as u16;
     more.ends[k] = found.end as u16;
-    more.deep = with_bit(steps.deep, n, found.deep);
-    more.every = with_bit(steps.every, n, found.every);
-    more.named = with_bit(steps.named, n, !found.every);
+    more.deep = bits::with_bit(steps.deep, k, found.deep);
+    more.every = bits::with_bit(steps.every, k, found.every);
+    more.named = bits::with_bit(steps.named, k, !found.every);
     more
 }

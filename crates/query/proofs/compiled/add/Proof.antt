@@ -5,9 +5,6 @@ use Rattle.query.proofs.Masks.{holds-more}
 use Rattle.query.proofs.compiled.add.Statement.{statement}
 use Rattle.query.proofs.compiled.add.Tie as tie
 
-cast-n : tie.Need-cast-n
-cast-n c = search needs
-
 add-more : tie.Need-add-more
 add-more c = search needs
 
@@ -46,7 +43,6 @@ pub add-spec : {M : Type 1} → statement M
 add-spec =
     tie.close
     (tie.spec
-    cast-n
     add-more
     cast-more
     mul-more
