@@ -7,7 +7,7 @@ use borrow.Author.Tests.{le-leb, lt-leb}
 use lib.ListN.{length, length-take}
 use Rattle.select.specs.Ways.{Span}
 use Rattle.answers.specs.Lister.{pairsOf, writtenIf, written, pairs, Lists, inputVerdict, spansIn}
-use Rattle.report.specs.Output.{queryIn, recordIn, tooLong, report, reportOn, emptyList, maxInput, picklistOutput}
+use Rattle.report.specs.Output.{maxPairs, queryIn, recordIn, tooLong, report, reportOn, freshList, maxInput, picklistOutput}
 
 pub output-long : (s : List ℕ) → maxInput < length s → picklistOutput s ≡ tooLong
 unfolding picklistOutput
@@ -28,10 +28,10 @@ unfolding pairs written
 pairs-fit q r l = written-fits (inputVerdict q r .ground) (spansIn q r) l
 
 -- an answer of a lister to the query and the record, with the list of 256 pairs
-module _ {q r after : List ℕ} {g p n k : ℕ} (says : Lists q r emptyList after g p n k) where
-  pub answer-fits : n ≤ 256
+module _ {q r after : List ℕ} {g p n k : ℕ} (says : Lists q r freshList after g p n k) where
+  pub answer-fits : n ≤ maxPairs
   unfolding pairsOf
-  answer-fits = rw (says .pairs-are) (pairs-fit q r emptyList)
+  answer-fits = rw (says .pairs-are) (pairs-fit q r freshList)
 
   answer-report : report g p n after ≡ reportOn q r
   unfolding reportOn

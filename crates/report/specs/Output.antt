@@ -25,7 +25,7 @@ unfoldable pub recordIn : List ℕ → List ℕ
 recordIn [] = []
 recordIn (b ∷ s) = elim (eqb b feed) [ true ↦ s | false ↦ recordIn s ]
 
--- a line of a first field and those after it: "one space parts the fields, and every line ends in a line feed"
+-- a line of a first field and those after it: "One space parts the fields, here and in a refusal, and every line ends in a line feed"
 unfoldable pub line : List ℕ → List (List ℕ) → List ℕ
 line f [] = f ++ (feed ∷ [])
 line f (g ∷ gs) = f ++ (space ∷ line g gs)
@@ -40,11 +40,11 @@ unfolding line decimal
 pairLines i zero l = []
 pairLines i (suc k) l = pairLine i l ++ pairLines (i + 1) k l
 
--- "the first line is `matches` and the number of pairs written", and the pairs follow
+-- "The first line is `matches` and the number of pairs written", and the pairs follow
 abbrev pub matches : (pairs : ℕ) → List ℕ → List ℕ
 matches n l = line (ascii "matches") (decimal n ∷ []) ++ pairLines 0 n l
 
--- "a refusal prints only `refused`, the ground and the place"
+-- "A refusal prints only `refused`, the ground and the place"
 abbrev pub refusal : (ground place : ℕ) → List ℕ
 refusal g p = line (ascii "refused") (decimal g ∷ decimal p ∷ [])
 
@@ -54,20 +54,23 @@ unfolding line decimal pairLines
 report zero p n l = matches n l
 report (suc g) p n l = refusal (suc g) p
 
--- the list of 256 pairs
-abbrev pub emptyList : List ℕ
-emptyList = replicate 512 0
+-- the pairs that the list has, and the list before anything is written to it, two numbers to a pair
+abbrev pub maxPairs : ℕ
+maxPairs = 256
+
+abbrev pub freshList : List ℕ
+freshList = replicate (maxPairs * 2) 0
 
 -- the text for a query and a record
 unfoldable pub reportOn : (query «record» : List ℕ) → List ℕ
 unfolding report ground place pairs listAfter
-reportOn q r = report (ground q r emptyList) (place q r emptyList) (pairs q r emptyList) (listAfter q r emptyList)
+reportOn q r = report (ground q r freshList) (place q r freshList) (pairs q r freshList) (listAfter q r freshList)
 
 -- the most bytes of input
 abbrev pub maxInput : ℕ
 maxInput = 65536
 
--- "input over 65,536 bytes prints `too long`"
+-- "Input over 65,536 bytes prints `too long`"
 abbrev pub tooLong : List ℕ
 tooLong = line (ascii "too long") []
 

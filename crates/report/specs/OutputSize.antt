@@ -32,14 +32,14 @@ use Rattle.select.specs.Order.{first-before-end}
 use Rattle.answers.specs.Lister.{pairsOf, orElse, inputVerdict, spansOf, spansIn, leftOver, listVerdict, verdict, writtenIf, written, flat, ground, place, pairs, listAfter}
 use Rattle.report.specs.Decimal.{decimal}
 use Rattle.report.specs.DecimalLaws.{decimal-length}
-use Rattle.report.specs.Output.{queryIn, recordIn, line, matches, refusal, report, reportOn, emptyList, maxInput, picklistOutput}
+use Rattle.report.specs.Output.{maxPairs, queryIn, recordIn, line, matches, refusal, report, reportOn, freshList, maxInput, picklistOutput}
 use Rattle.report.specs.SplitLaws.{query-within, record-within}
 use Rattle.report.specs.SizeLaws.{three-length, matches-size}
 use Rattle.report.specs.AnswerLaws.{output-long, output-short, pairs-fit}
 
 -- a line of 12 bytes, and 256 lines of 16
 abbrev pub maxOutput : ℕ
-maxOutput = 12 + 256 * 16
+maxOutput = 12 + maxPairs * 16
 
 -- a ground of one digit, and a place up to b
 pub record Mild (b : ℕ) (v : Verdict) : Type 0 where
@@ -188,21 +188,21 @@ low-zeros b zero j = low-none b j
 low-zeros b (suc n) zero = omega arith
 low-zeros b (suc n) (suc j) = low-zeros b n j
 
-list-low : (q r : List ℕ) → Low (length r) (listAfter q r emptyList)
+list-low : (q r : List ℕ) → Low (length r) (listAfter q r freshList)
 unfolding listAfter written
 list-low q r =
-    low-append (length r) (flat (written q r emptyList)) (drop (2 * length (written q r emptyList)) emptyList)
-    (low-flat (length r) (written q r emptyList) (all-written (length r) (inputVerdict q r .ground) (spansIn q r) emptyList (spans-in q r)))
-    (low-drop (length r) (2 * length (written q r emptyList)) emptyList (low-zeros (length r) 512))
+    low-append (length r) (flat (written q r freshList)) (drop (2 * length (written q r freshList)) freshList)
+    (low-flat (length r) (written q r freshList) (all-written (length r) (inputVerdict q r .ground) (spansIn q r) freshList (spans-in q r)))
+    (low-drop (length r) (2 * length (written q r freshList)) freshList (low-zeros (length r) (maxPairs * 2)))
 
 -- the text for a query and a record that have at most 65,536 bytes
-taken-size : (n : ℕ) (l : List ℕ) → n ≤ 256 → Low maxInput l → length (matches n l) ≤ maxOutput
+taken-size : (n : ℕ) (l : List ℕ) → n ≤ maxPairs → Low maxInput l → length (matches n l) ≤ maxOutput
 taken-size n l h low = omega (arith, matches-size l 5 (λ j. decimal-length 4 (getD l j 0) (omega (arith, low j))) n h)
 
 refused-size : (g p : ℕ) → g < 10 → p ≤ maxInput → length (refusal g p) ≤ maxOutput
 refused-size g p a b = omega (arith, three-length (ascii "refused") (decimal g) (decimal p), decimal-length 0 g (omega arith), decimal-length 4 p (omega arith))
 
-report-size : (g p n : ℕ) (l : List ℕ) → g < 10 → p ≤ maxInput → n ≤ 256 → Low maxInput l → length (report g p n l) ≤ maxOutput
+report-size : (g p n : ℕ) (l : List ℕ) → g < 10 → p ≤ maxInput → n ≤ maxPairs → Low maxInput l → length (report g p n l) ≤ maxOutput
 unfolding report
 report-size zero p n l a b h low = taken-size n l h low
 report-size (suc g) p n l a b h low = refused-size (suc g) p a b
@@ -210,11 +210,11 @@ report-size (suc g) p n l a b h low = refused-size (suc g) p a b
 report-on-size : (q r : List ℕ) → length q ≤ maxInput → length r ≤ maxInput → length (reportOn q r) ≤ maxOutput
 unfolding reportOn ground place pairsOf
 report-on-size q r hq hr =
-    let v = verdict-mild q r emptyList maxInput hq hr in
-    report-size (ground q r emptyList) (place q r emptyList) (pairs q r emptyList) (listAfter q r emptyList)
+    let v = verdict-mild q r freshList maxInput hq hr in
+    report-size (ground q r freshList) (place q r freshList) (pairs q r freshList) (listAfter q r freshList)
     (v .digit)
     (v .low)
-    (pairs-fit q r emptyList)
+    (pairs-fit q r freshList)
     (λ j. omega (arith, list-low q r j))
 
 pub output-size : (s : List ℕ) → length (picklistOutput s) ≤ maxOutput

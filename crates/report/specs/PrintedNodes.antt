@@ -11,7 +11,7 @@ use Rattle.encoding.specs.Verdict.{Verdict}
 use Rattle.select.specs.Ways.{Span}
 use Rattle.answers.specs.Lister.{pairsOf, orElse, inputVerdict, spansIn, leftOver, listVerdict, verdict, writtenIf, written, flat, ground, place, pairs, listAfter}
 use Rattle.report.specs.Decimal.{decimal}
-use Rattle.report.specs.Output.{line, pairLine, pairLines, matches, reportOn, emptyList}
+use Rattle.report.specs.Output.{line, pairLine, pairLines, matches, reportOn, freshList}
 use Rattle.report.specs.OutputLaws.{report-taken}
 
 -- a line for each node, numbered from n on
@@ -89,10 +89,10 @@ written-all q r l e =
     let z = none-of (inputVerdict q r) (listVerdict (spansIn q r) l) e in
     written-if (inputVerdict q r .ground) (spansIn q r) l (z .0) (z .1)
 
-pub printed-nodes : (q r : List ℕ) → ground q r emptyList ≡ 0 → reportOn q r ≡ nodesText (spansIn q r)
+pub printed-nodes : (q r : List ℕ) → ground q r freshList ≡ 0 → reportOn q r ≡ nodesText (spansIn q r)
 unfolding reportOn pairs listAfter
 printed-nodes q r e =
-    let xs = written q r emptyList in
-    report-taken (ground q r emptyList) (place q r emptyList) (length xs) (flat xs ++ drop (2 * length xs) emptyList) e
-    ∙ matches-nodes xs (drop (2 * length xs) emptyList)
-    ∙ ap nodesText (written-all q r emptyList e)
+    let xs = written q r freshList in
+    report-taken (ground q r freshList) (place q r freshList) (length xs) (flat xs ++ drop (2 * length xs) freshList) e
+    ∙ matches-nodes xs (drop (2 * length xs) freshList)
+    ∙ ap nodesText (written-all q r freshList e)

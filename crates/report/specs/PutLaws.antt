@@ -5,7 +5,7 @@ use Prim.Native.Nat.{ℕ, _+_, _-_, _≤_, _<_}
 use native.Mathlib.Nat.{add-zero, zero-add}
 use native.Mathlib.Numerals.{add-one}
 use native.Mathlib.Omega.{arith}
-use lib.ListN.{length, take, drop, getD, set, drop-of-length-le, length-append, length-drop, take-append-drop}
+use lib.ListN.{length, take, drop, getD, set, drop-of-length-le, length-append, length-take, length-drop, take-append-drop}
 use lib.Seq.{length-take-le, take-at, drop-at, drop-drop, set-split, take-append-le, take-take, drop-cons}
 use Rattle.report.specs.Put.{put, Room, Written, Printed}
 
@@ -144,3 +144,11 @@ module _ {text : List ℕ} (r s t : List ℕ) (parts : text ≡ r ++ (s ++ t)) {
 
       pub three-written : {a : List ℕ} {k : ℕ} → Written t j n a k → Written text at b a k
       three-written three = rw parts (written-both one (written-both two three rest-fits) whole)
+
+-- the part of the buffer that holds the text
+module _ {t b a : List ℕ} {j : ℕ} (p : Printed t b a j) where
+  pub printed-part : j ≡ length (take j a)
+  printed-part = p .size-is ∙ ap length (sym (p .text-is))
+
+  pub printed-within : j ≤ length a
+  printed-within = omega (arith, printed-part, length-take j a)

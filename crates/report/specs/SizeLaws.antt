@@ -8,16 +8,16 @@ use lib.ListN.{length, getD, length-append}
 use Rattle.encoding.specs.Ascii.{ascii}
 use Rattle.report.specs.Decimal.{decimal}
 use Rattle.report.specs.DecimalLaws.{decimal-length, decimal-word}
-use Rattle.report.specs.Output.{line, pairLine, pairLines, matches, refusal}
+use Rattle.report.specs.Output.{space, feed, maxPairs, line, pairLine, pairLines, matches, refusal}
 
 -- the length of a line
 line-length : (f : List ℕ) → length (line f []) ≡ length f + 1
 unfolding line
-line-length f = length-append f (0x0A ∷ [])
+line-length f = length-append f (feed ∷ [])
 
 line-longer : (f g : List ℕ) (gs : List (List ℕ)) → length (line f (g ∷ gs)) ≡ length f + 1 + length (line g gs)
 unfolding line
-line-longer f g gs = length-append f (0x20 ∷ line g gs) ∙ omega arith
+line-longer f g gs = length-append f (space ∷ line g gs) ∙ omega arith
 
 pub three-length : (f g h : List ℕ) → length (line f (g ∷ h ∷ [])) ≡ length f + length g + length h + 3
 three-length f g h = omega (arith, line-longer f g (h ∷ []), line-longer g h [], line-length h)
@@ -50,7 +50,7 @@ module _ (l : List ℕ) (d : ℕ) (digits : (j : ℕ) → length (decimal (getD 
         suc-mul k (d + d + 6),
       )
 
-  pub matches-size : (n : ℕ) → n ≤ 256 → length (matches n l) ≤ 12 + n * (d + d + 6)
+  pub matches-size : (n : ℕ) → n ≤ maxPairs → length (matches n l) ≤ 12 + n * (d + d + 6)
   matches-size n h =
       omega (
         arith,

@@ -5,8 +5,9 @@ ghost use mathlib.Core.List.{_∷_, [], _++_};
 ghost use Prim.Native.Nat.{_*_, _≤_};
 ghost use lib.ListN.{length};
 ghost use Rattle.report.specs.Decimal.{decimal};
-ghost use Rattle.report.specs.Output.{line, pairLines, matches, refusal, tooLong, report};
+ghost use Rattle.report.specs.Output.{maxPairs, line, pairLines, matches, refusal, tooLong, report};
 ghost use Rattle.report.specs.Put.{Room, Written, Printed};
+use crate::OUTPUT_SIZE;
 
 const SPACE: u8 = b' ';
 
@@ -126,13 +127,13 @@ fn write_matches(out: &mut [u8], pairs: u32, list: &[u32]) -> usize
 
 // Writes the text for an answer at the start of the buffer, and answers its length.
 pub fn write_answer(
-    out: &mut [u8; 8192],
+    out: &mut [u8; OUTPUT_SIZE],
     ground: u32,
     place: u32,
     pairs: u32,
     list: &[u32],
 ) -> usize
-    requires { ⌜ pairs ≤ 256 ⌝ }
+    requires { ⌜ pairs ≤ maxPairs ⌝ }
     requires { ⌜ pairs * 2 ≤ length (now list) ⌝ }
     ensures { λ r. ⌜ Printed (report ground place pairs (now (list .entry))) (now (out .entry)) (now (out .exit)) r ⌝ }
 {
@@ -143,7 +144,7 @@ pub fn write_answer(
 }
 
 // Writes the text for an input over the limit at the start of the buffer, and answers its length.
-pub fn write_too_long(out: &mut [u8; 8192]) -> usize
+pub fn write_too_long(out: &mut [u8; OUTPUT_SIZE]) -> usize
     ensures { λ r. ⌜ Printed tooLong (now (out .entry)) (now (out .exit)) r ⌝ }
 {
     write_word(out, 0, b"too long\n")
