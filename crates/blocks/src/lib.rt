@@ -11,6 +11,7 @@ ghost use Rattle.blocks.specs.Parts.{oddRun, parity, Swapped, Classified
 ghost use Rattle.blocks.specs.Sorted.{Sorted};
 
 // Words one to four of a block, and the facts that hold after it.
+#[repr(C)]
 pub struct Words {
     pub quotes: u64,
     pub strings: u64,
