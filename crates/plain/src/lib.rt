@@ -1,0 +1,255 @@
+// The plain walk: it enters each container's values one level down, as the nesting goes, and looks at every node.
+use query::Compiled;
+ghost use mathlib.Core.Path.{_≡_};
+ghost use Prim.Native.Nat.{_+_, _≤_, _<_};
+ghost use lib.ListN.{length};
+ghost use Rattle.encoding.specs.ClassTable.{ClassTable};
+ghost use Rattle.json.specs.Verdict.{maxBytes, maxDepth};
+ghost use Rattle.marks.specs.Advances.{Fits};
+ghost use Rattle.pairs.specs.Pairs.{tally};
+ghost use Rattle.walk.specs.Walks.{Walks};
+ghost use Rattle.plain.specs.Plain.{state, Starts, EntersChild, WalksValue, WalksItems};
+
+// The levels that a record may nest.
+const MAX_DEPTH: usize = 512;
+
+// The classes of brackets, and the bytes that tell an object and an item that follows.
+const OPENING: u8 = 1;
+
+const CLOSING: u8 = 2;
+
+const OBJECT: u8 = b'{';
+
+const COMMA: u8 = b',';
+
+// The state of a node: its marks, whether it is picked out, and the frames on the way to it.
+struct State {
+    marks: u16,
+    picked: bool,
+    frames: usize,
+}
+
+// What a walk counts: the pairs used, the most frames at once, and one more than the first byte of the first node left over, or 0.
+pub struct Counts {
+    pub used: usize,
+    pub peak: usize,
+    pub stop: usize,
+}
+
+// The place after what was walked, and the counts there.
+struct Walked {
+    end: usize,
+    counts: Counts,
+}
+
+// The first byte of an item's value, and the value's state.
+struct Child {
+    at: usize,
+    state: State,
+}
+
+// The state of the root for a query of `count` steps: mark 0 where there is a step, picked out where there is none.
+fn root_state(count: usize) -> State
+    ensures { λ r. ⌜ Starts count (state (r .marks) (r .picked) (r .frames)) ⌝ }
+{
+    if count == 0 {
+        return State {
+            marks: 0,
+            picked: true,
+            frames: 0,
+        };
+    }
+    State {
+        marks: 1,
+        picked: false,
+        frames: 0,
+    }
+}
+
+// Enters the item at `at` of a container with the state `around`: the place of the item's value, and the value's state.
+fn enter_child(
+    query: &[u8],
+    steps: Compiled,
+    record: &[u8],
+    at: usize,
+    object: bool,
+    around: State,
+) -> Child
+    requires { ⌜ Fits (now query) steps ⌝ }
+    requires { ⌜ (at ≤ length (now «record»)) × (around .frames < maxDepth) ⌝ }
+    ensures { λ r. ⌜ EntersChild (now (query .entry)) steps (now («record» .entry)) at object (state (around .marks) (around .picked) (around .frames)) (r .at) (state (r .state .marks) (r .state .picked) (r .state .frames)) ⌝ }
+{
+    let item = scan::enter_item(record, at, object);
+    let from = item.from;
+    let to = item.to;
+    let above = around.marks;
+    let child = marks::advance(query, steps, above, record, from, to, object);
+    let below = child.marks;
+    let count = around.frames;
+    let frames = marks::framed(above, below, count);
+    Child {
+        at: item.value,
+        state: State {
+            marks: below,
+            picked: child.picked,
+            frames,
+        },
+    }
+}
+
+// Walks the value at `at`, of which at most `left` levels are opened: lists it if it is picked out, counts its frames if it is a
+// container, and walks its items.
+fn walk_value(
+    classes: &[u8; 256],
+    query: &[u8],
+    steps: Compiled,
+    record: &[u8],
+    at: usize,
+    left: usize,
+    node: State,
+    list: &mut [u32],
+    counts: Counts,
+) -> Walked
+    requires { ⌜ ClassTable (now classes) ⌝ }
+    requires { ⌜ Fits (now query) steps ⌝ }
+    requires { ⌜ (length (now «record») ≤ maxBytes) × (at ≤ length (now «record»)) × (node .frames + left ≤ maxDepth) ⌝ }
+    ensures { λ r. ⌜ WalksValue (now (query .entry)) steps (now («record» .entry)) at left (state (node .marks) (node .picked) (node .frames)) (tally (now (list .entry)) (counts .used) (counts .peak) (counts .stop)) (tally (now (list .exit)) (r .counts .used) (r .counts .peak) (r .counts .stop)) (r .end) ⌝ }
+{
+    if at >= record.len() {
+        return Walked { end: at, counts };
+    }
+    let picked = node.picked;
+    let used = counts.used;
+    let stop = counts.stop;
+    let peak = counts.peak;
+    let begun = pairs::begin(list, picked, used, stop, at);
+    let begun_used = begun.used;
+    let begun_stop = begun.stop;
+    let wait = begun.wait;
+    let byte = record[at];
+    if encoding::class(classes, byte) != OPENING {
+        let end = scan::scalar_end(classes, record, at);
+        pairs::finish(list, wait, end);
+        return Walked {
+            end,
+            counts: Counts {
+                used: begun_used,
+                peak,
+                stop: begun_stop,
+            },
+        };
+    }
+    if left == 0 {
+        return Walked { end: at, counts };
+    }
+    let frames = node.frames;
+    let most = pairs::raise(peak, frames, begun_stop);
+    let entered = Counts {
+        used: begun_used,
+        peak: most,
+        stop: begun_stop,
+    };
+    let object = byte == OBJECT;
+    let walked = walk_items(
+        classes,
+        query,
+        steps,
+        record,
+        at + 1,
+        left - 1,
+        object,
+        node,
+        list,
+        entered,
+    );
+    let end = walked.end;
+    pairs::finish(list, wait, end);
+    walked
+}
+
+// Walks the items of the container with the state `node` whose opening bracket stands just before `at`, each value at most `left`
+// levels deep, up to its closing bracket.
+fn walk_items(
+    classes: &[u8; 256],
+    query: &[u8],
+    steps: Compiled,
+    record: &[u8],
+    at: usize,
+    left: usize,
+    object: bool,
+    node: State,
+    list: &mut [u32],
+    counts: Counts,
+) -> Walked
+    requires { ⌜ ClassTable (now classes) ⌝ }
+    requires { ⌜ Fits (now query) steps ⌝ }
+    requires { ⌜ (length (now «record») ≤ maxBytes) × (at ≤ length (now «record»)) × (node .frames + left < maxDepth) ⌝ }
+    ensures { λ r. ⌜ WalksItems (now (query .entry)) steps (now («record» .entry)) at left object (state (node .marks) (node .picked) (node .frames)) (tally (now (list .entry)) (counts .used) (counts .peak) (counts .stop)) (tally (now (list .exit)) (r .counts .used) (r .counts .peak) (r .counts .stop)) (r .end) ⌝ }
+{
+    let first = scan::skip_blanks(record, at);
+    if first >= record.len() {
+        return Walked { end: first, counts };
+    }
+    let byte = record[first];
+    if encoding::class(classes, byte) == CLOSING {
+        return Walked {
+            end: first + 1,
+            counts,
+        };
+    }
+    let mut i = at;
+    let mut sum = counts;
+    loop {
+        let child = enter_child(query, steps, record, i, object, node);
+        let value = child.at;
+        let below = child.state;
+        let walked = walk_value(classes, query, steps, record, value, left, below, list, sum);
+        let end = walked.end;
+        let more = walked.counts;
+        sum = more;
+        let next = scan::skip_blanks(record, end);
+        if next >= record.len() {
+            return Walked {
+                end: next,
+                counts: sum,
+            };
+        }
+        if record[next] != COMMA {
+            return Walked {
+                end: next + 1,
+                counts: sum,
+            };
+        }
+        i = next + 1;
+    }
+}
+
+// Lists the nodes of a checked record that a query picks out, and counts frames, by the plain walk: what the list holds and the counts
+// are the tally of all nodes. Where the list has too few pairs it holds the first nodes, and the walk says where the first one left over is.
+pub fn walk_plain(query: &[u8], steps: Compiled, record: &[u8], list: &mut [u32]) -> Counts
+    requires { ⌜ Fits (now query) steps ⌝ }
+    requires { ⌜ length (now «record») ≤ maxBytes ⌝ }
+    ensures { λ r. ⌜ Walks (now (query .entry)) steps (now («record» .entry)) (now (list .entry)) (now (list .exit)) (r .used) (r .peak) (r .stop) ⌝ }
+{
+    let classes = encoding::classes();
+    let at = scan::skip_blanks(record, 0);
+    let count = steps.count;
+    let node = root_state(count);
+    let counts = Counts {
+        used: 0,
+        peak: 0,
+        stop: 0,
+    };
+    let walked = walk_value(
+        &classes,
+        query,
+        steps,
+        record,
+        at,
+        MAX_DEPTH,
+        node,
+        list,
+        counts,
+    );
+    walked.counts
+}
