@@ -1,0 +1,40 @@
+-- `validate::numbers::ending_end` meets its contract: at the end of the bytes, at a byte that is no letter of an exponent, and at one that is.
+-- Assumes nothing.
+use borrow.Author.Tests.{not-true, not-false}
+use Rattle.validate.specs.Numbers.{ending-none, ending-other, ending-exponent}
+use borrow.Author.Needs.{needs}
+use Rattle.validate.proofs.numbers.ending_end.Statement.{statement}
+use Rattle.validate.proofs.numbers.ending_end.Tie as tie
+
+returns : tie.Need-returns
+returns c = ending-none (c .before .before .pre) (c .if1 .taken)
+
+shared-slice-read-is-exponent : tie.Need-shared-slice-read-is-exponent
+shared-slice-read-is-exponent c = search needs
+
+is-exponent-requires : tie.Need-is-exponent-requires
+is-exponent-requires c κs = search needs
+
+returns-2 : tie.Need-returns-2
+returns-2 c = ending-other (c .before .before .before .if1 .left) (rw (not-true (c .before .is-exponent .result) (c .if2 .taken)) at (c .before .is-exponent .ensures))
+
+add-exponent-end : tie.Need-add-exponent-end
+add-exponent-end c = search needs
+
+exponent-end-requires : tie.Need-exponent-end-requires
+exponent-end-requires c κs = search needs
+
+returns-3 : tie.Need-returns-3
+returns-3 c = ending-exponent (c .before .before .before .before .if1 .left) (rw (not-false (c .before .before .is-exponent .result) (c .before .if2 .left)) at (c .before .before .is-exponent .ensures)) (c .exponent-end .ensures)
+
+pub ending-end-spec : {M : Type 1} → statement M
+ending-end-spec =
+    tie.close
+    (tie.spec
+    returns
+    shared-slice-read-is-exponent
+    is-exponent-requires
+    returns-2
+    add-exponent-end
+    exponent-end-requires
+    returns-3)

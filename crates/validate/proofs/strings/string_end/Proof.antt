@@ -1,0 +1,74 @@
+-- `validate::strings::string_end` meets its contract. The loop's invariant: the machine has come through the string so far, and no plain byte
+-- stands next. The measure is what is left of the length. Assumes nothing.
+use mathlib.Core.Path.{_≡_}
+use mathlib.Core.Bool.{Bool, true, false}
+use Prim.Native.Nat.{_≤_, _<_, _-_}
+use native.Mathlib.Omega.{arith}
+use lib.ListN.{length, getD}
+use borrow.Author.Tests.{not-true, not-false}
+use Rattle.swar.specs.Kinds.{plain}
+use Rattle.swar.specs.KindLaws.{not-plain}
+use Rattle.json.specs.Machine.{inString}
+use Rattle.json.specs.Led.{Led, led-here}
+use Rattle.validate.specs.Strings.{led-plain, string-closed, string-open, string-on, string-wrong}
+use borrow.Author.Needs.{needs}
+use Rattle.validate.proofs.strings.string_end.Statement.{statement}
+use Rattle.validate.proofs.strings.string_end.Tie as tie
+
+abbrev Inv-loop : tie.InvT-loop
+Inv-loop s rows from i₀ i =
+    ((f : Bool) → Led s from (inString f) (inString f) true i) × (i < length s → plain (getD s i 0) ≡ false)
+
+abbrev μ-loop : tie.MeasureT-loop
+μ-loop s rows from i₀ i = length s - i
+
+plain-run-requires : tie.Need-plain-run-requires Inv-loop μ-loop
+plain-run-requires c κs = search needs
+
+loop-holds : tie.Need-loop-holds Inv-loop μ-loop
+loop-holds c = (λ f. led-plain (led-here _ _ (inString f) (c .before .before .pre .1)) (c .plain-run .ensures .passed), c .plain-run .ensures .stop)
+
+shared-slice-read-if1 : tie.Need-shared-slice-read-if1 Inv-loop μ-loop
+shared-slice-read-if1 c = search needs
+
+add-t11 : tie.Need-add-t11 Inv-loop μ-loop
+add-t11 c = search needs
+
+returns : tie.Need-returns Inv-loop μ-loop
+returns c = λ f. string-closed (c .before .before .before .loop .inv .0 f) (c .before .before .loop-test .taken) (c .if1 .taken)
+
+character-end-requires : tie.Need-character-end-requires Inv-loop μ-loop
+character-end-requires c κs = (c .before .before .before .before .before .before .pre .0, c .before .before .loop-test .taken, not-plain (c .before .before .before .loop .inv .1 (c .before .before .loop-test .taken)), c .if1 .left)
+
+returns-2 : tie.Need-returns-2 Inv-loop μ-loop
+returns-2 c = λ f. string-wrong (c .before .before .before .before .before .before .loop .inv .0 f) (c .before .before .character-end .ensures) (not-true _ (c .if2 .taken))
+
+plain-run-requires-2 : tie.Need-plain-run-requires-2 Inv-loop μ-loop
+plain-run-requires-2 c κs = c .before .before .character-end .ensures .led true .within
+
+loop-less : tie.Need-loop-less Inv-loop μ-loop
+loop-less c = omega (arith, c .before .before .before .character-end .ensures .moved (not-false _ (c .before .if2 .left)), c .plain-run2 .ensures .passed .forward)
+
+loop-again : tie.Need-loop-again Inv-loop μ-loop
+loop-again c = (λ f. led-plain (string-on (c .before .before .before .before .before .before .before .loop .inv .0 f) (c .before .before .before .character-end .ensures) (not-false _ (c .before .if2 .left))) (c .plain-run2 .ensures .passed), c .plain-run2 .ensures .stop)
+
+returns-3 : tie.Need-returns-3 Inv-loop μ-loop
+returns-3 c = λ f. string-open (c .before .loop .inv .0 f) (c .loop-test .left)
+
+pub string-end-spec : {M : Type 1} → statement M
+string-end-spec =
+    tie.close
+    (tie.spec
+    Inv-loop
+    μ-loop
+    plain-run-requires
+    loop-holds
+    shared-slice-read-if1
+    add-t11
+    returns
+    character-end-requires
+    returns-2
+    plain-run-requires-2
+    loop-less
+    loop-again
+    returns-3)

@@ -1,0 +1,10 @@
+pub mod Among
+pub mod Checks
+pub mod Names
+pub mod Nesting
+pub mod Numbers
+pub mod Opened
+pub mod Scalars
+pub mod Strings
+pub mod Turns
+pub mod Words
