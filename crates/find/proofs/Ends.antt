@@ -3,7 +3,7 @@
 use mathlib.Core.Path.{_≡_, refl, ap, _∙_}
 use mathlib.Core.List.{List, [], _∷_, _++_}
 use mathlib.Core.Bool.{Bool, true, false}
-use mathlib.Core.Option.{Option, some}
+use mathlib.Core.Option.{Option, some, none}
 use Prim.Native.Nat.{ℕ, suc, _+_, _<_}
 use native.Mathlib.Omega.{arith}
 use borrow.Author.Tests.{eq-eqb, ne-eqb}
@@ -56,6 +56,19 @@ module _ (o : ℕ) where
       go : (b : Bool) → headOr x b (endOrZero xs o) ≡ 0 → (endOrZero xs o ≡ 0 → endOrZero (xs ++ ys) o ≡ endOrZero ys o)
           → headOr x b (endOrZero (xs ++ ys) o) ≡ endOrZero ys o
       go true h again = absurd (omega (arith, first-before-end (x .node)))
+      go false h again = again h
+
+  -- no end is 0
+  pub none-found : (vs : List (Visit Way)) → endOrZero vs o ≡ 0 → endAmong vs o ≡ none
+  unfolding endAmong orZero
+  none-found [] h = refl
+  none-found (v ∷ vs) h = go (eqb (v .node .first) o) h (none-found vs)
+    where
+      headEnd : Bool → Option ℕ
+      headEnd b = elim b [ true ↦ some (endOf (v .node)) | false ↦ endAmong vs o ]
+
+      go : (b : Bool) → orZero (headEnd b) ≡ 0 → (endOrZero vs o ≡ 0 → endAmong vs o ≡ none) → headEnd b ≡ none
+      go true h again = absurd (omega (arith, first-before-end (v .node)))
       go false h again = again h
 
   -- all nodes begin behind the offset

@@ -1,3 +1,4 @@
+pub mod Answered
 pub mod Descent
 pub mod Ends
 pub mod Inside

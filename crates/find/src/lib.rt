@@ -1,13 +1,16 @@
 // The value that begins at an offset of a record: a descent from the root, value by value.
 use encoding::class;
+use encoding::classes;
 use leap::leave;
 use scan::enter_item;
 use scan::scalar_end;
 use scan::skip_blanks;
+use validate::check_record;
 ghost use mathlib.Core.Path.{_≡_};
 ghost use Prim.Native.Nat.{_≤_};
 ghost use lib.ListN.{length};
 ghost use Rattle.encoding.specs.ClassTable.{ClassTable};
+ghost use Rattle.answers.specs.Finder.{Finds, valuePart};
 ghost use Rattle.find.specs.Seeks.{EndsValue, FirstItem, NextItem, SeeksValue, SeeksInside, FindsFrom};
 
 // The classes of brackets.
@@ -21,6 +24,16 @@ const BRACE: u8 = 0x7B;
 
 // How many levels a record may nest.
 const LEVELS: usize = 512;
+
+// Ground 8: no value begins at the offset.
+const NO_VALUE: u32 = 8;
+
+// What the value finder answers: a ground of refusal, 0 for none, its place, 0 without a refusal, and the end of the value, 0 on refusal.
+pub struct Found {
+    pub ground: u32,
+    pub place: usize,
+    pub end: usize,
+}
 
 // Whether an item is ahead in a container, and where; where none is, the place after the closing bracket.
 pub struct Ahead {
@@ -158,4 +171,45 @@ pub fn find_from(classes: &[u8; 256], record: &[u8], offset: usize) -> usize
     let at = skip_blanks(record, 0);
     let sought = seek_value(classes, record, offset, at, LEVELS);
     sought.end
+}
+
+// The value finder: the end of the value that begins at `offset`; a record that is not taken is refused first, and then an offset that is
+// not the first byte of a value.
+pub fn find_value(record: &[u8], offset: usize) -> Found
+    ensures { λ r. ⌜ Finds (now («record» .entry)) offset (r .ground) (r .place) (r .end) ⌝ }
+{
+    let checked = check_record(record);
+    if checked.ground != 0 {
+        return Found {
+            ground: checked.ground,
+            place: checked.place,
+            end: 0,
+        };
+    }
+    let table = classes();
+    let end = find_from(&table, record, offset);
+    if end == 0 {
+        return Found {
+            ground: NO_VALUE,
+            place: offset,
+            end: 0,
+        };
+    }
+    Found {
+        ground: 0,
+        place: 0,
+        end,
+    }
+}
+
+// The value reader: the part of `record` that is the value that begins at `offset`, or an empty part where the finder refuses.
+pub fn read_value(record: &[u8], offset: usize) -> &[u8]
+    ensures { λ r. ⌜ now r ≡ valuePart (now («record» .entry)) offset ⌝ }
+{
+    let found = find_value(record, offset);
+    if found.ground != 0 {
+        return &record[..0];
+    }
+    let end = found.end;
+    &record[offset..end]
 }
