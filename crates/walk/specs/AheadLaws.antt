@@ -31,23 +31,23 @@ unfolding starts
 starts-class b u h e = false≢true (ap not (sym (eq-eqb (classOf b) 2 e)) ∙ h)
 
 -- what begins a value or a key stands there
-starts-at : (s : List ℕ) (a : ℕ) (xs : List ℕ) → starts xs ≡ true → drop a s ≡ xs → (a < length s) × (classOf (getD s a 0) ≡ 2 → ⊥)
+pub starts-at : (s : List ℕ) (a : ℕ) (xs : List ℕ) → starts xs ≡ true → drop a s ≡ xs → (a < length s) × (classOf (getD s a 0) ≡ 2 → ⊥)
 unfolding starts
 starts-at s a [] h e = absurd (false≢true h)
 starts-at s a (b ∷ xs) h e =
     let x = head-of s a b xs e in
     (x .inside, λ c. starts-class b xs h (ap classOf (sym (x .byte-is)) ∙ c))
 
-closing-class : (k : Kind) → classOf (closing k) ≡ 2
+pub closing-class : (k : Kind) → classOf (closing k) ≡ 2
 unfolding classOf
 closing-class G.array = refl
 closing-class G.object = refl
 
-closing-comma : (k : Kind) → closing k ≡ 0x2C → ⊥
+pub closing-comma : (k : Kind) → closing k ≡ 0x2C → ⊥
 closing-comma G.array e = omega arith
 closing-comma G.object e = omega arith
 
-item-length : (k : Kind) (w : Blanks) (key : Key k) (v : Value) (u : List ℕ) → length (putBlanks w (putKey k key (putValue v u))) ≡ length w + keySize k key + size v + length u
+pub item-length : (k : Kind) (w : Blanks) (key : Key k) (v : Value) (u : List ℕ) → length (putBlanks w (putKey k key (putValue v u))) ≡ length w + keySize k key + size v + length u
 unfolding keySize size
 item-length k w key v u = omega (arith, length-blanks w (putKey k key (putValue v u)), length-key k key (putValue v u), length-value v u)
 

@@ -39,11 +39,11 @@ digit-class : (x : In 0x31 0x39) → classOf (x .byte) ≡ 1 → ⊥
 digit-class x f = ⊎-elim (λ (e : x .byte ≡ 0x5B). omega (arith, to-high x)) (λ (e : x .byte ≡ 0x7B). omega (arith, to-high x)) (C.opening-class (x .byte) .0 f)
 
 -- the opening bracket, by the flag of an object
-opening-is : (k : Kind) → kindIf (eqb (opening k) 0x7B) ≡ k
+pub opening-is : (k : Kind) → kindIf (eqb (opening k) 0x7B) ≡ k
 opening-is G.array = refl
 opening-is G.object = refl
 
-opening-class : (k : Kind) → classOf (opening k) ≡ 1
+pub opening-class : (k : Kind) → classOf (opening k) ≡ 1
 unfolding classOf
 opening-class G.array = refl
 opening-class G.object = refl
@@ -58,18 +58,18 @@ module _ (s rest : List ℕ) (i : ℕ) (f : classOf (getD s i 0) ≡ 1) where
   not-byte : (b : ℕ) (u : List ℕ) → (classOf b ≡ 1 → ⊥) → drop i s ≡ b ∷ u → ⊥
   not-byte b u h d = h (ap classOf (sym (head-of s i b u d .byte-is)) ∙ f)
 
-  not-literal : (l : Literal) → drop i s ≡ putLiteral l rest → ⊥
+  pub not-literal : (l : Literal) → drop i s ≡ putLiteral l rest → ⊥
   unfolding putLiteral classOf
   not-literal G.falseName d = not-byte 0x66 _ (λ (z : classOf 0x66 ≡ 1). omega arith) d
   not-literal G.nullName d = not-byte 0x6E _ (λ (z : classOf 0x6E ≡ 1). omega arith) d
   not-literal G.trueName d = not-byte 0x74 _ (λ (z : classOf 0x74 ≡ 1). omega arith) d
 
-  not-number : (g : Minus) (n : Int) (u : List ℕ) → drop i s ≡ putMinus g (putInt n u) → ⊥
+  pub not-number : (g : Minus) (n : Int) (u : List ℕ) → drop i s ≡ putMinus g (putInt n u) → ⊥
   unfolding putMinus classOf
   not-number G.unsigned n u d = int-class s i n u d f
   not-number G.minus n u d = not-byte 0x2D (putInt n u) (λ (z : classOf 0x2D ≡ 1). omega arith) d
 
-  not-string : (cs : List Char) → drop i s ≡ putString cs rest → ⊥
+  pub not-string : (cs : List Char) → drop i s ≡ putString cs rest → ⊥
   unfolding putString classOf
   not-string cs d = not-byte 0x22 _ (λ (z : classOf 0x22 ≡ 1). omega arith) d
 
