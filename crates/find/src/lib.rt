@@ -29,6 +29,7 @@ const LEVELS: usize = 512;
 const NO_VALUE: u32 = 8;
 
 // What the value finder answers: a ground of refusal, 0 for none, its place, 0 without a refusal, and the end of the value, 0 on refusal.
+#[repr(C)]
 pub struct Found {
     pub ground: u32,
     pub place: usize,
@@ -36,9 +37,9 @@ pub struct Found {
 }
 
 // Whether an item is ahead in a container, and where; where none is, the place after the closing bracket.
-pub struct Ahead {
-    pub item: bool,
-    pub at: usize,
+struct Ahead {
+    item: bool,
+    at: usize,
 }
 
 // The end of the value that is looked for, or 0 where it was not found; then `at` is the place after what was looked through.
@@ -48,7 +49,7 @@ struct Sought {
 }
 
 // The place after the value at `at`.
-pub fn value_end(classes: &[u8; 256], record: &[u8], at: usize) -> usize
+fn value_end(classes: &[u8; 256], record: &[u8], at: usize) -> usize
     requires { ⌜ ClassTable (now classes) ⌝ }
     requires { ⌜ (at ≤ length (now «record»)) × (length (now «record») ≤ 16777216) ⌝ }
     ensures { λ r. ⌜ EndsValue (now («record» .entry)) at r ⌝ }
@@ -63,7 +64,7 @@ pub fn value_end(classes: &[u8; 256], record: &[u8], at: usize) -> usize
 }
 
 // Passes the blanks behind an opening bracket: to the first item, or past the closing bracket.
-pub fn first_item(classes: &[u8; 256], record: &[u8], at: usize) -> Ahead
+fn first_item(classes: &[u8; 256], record: &[u8], at: usize) -> Ahead
     requires { ⌜ ClassTable (now classes) ⌝ }
     requires { ⌜ at ≤ length (now «record») ⌝ }
     ensures { λ r. ⌜ FirstItem (now («record» .entry)) at (r .item) (r .at) ⌝ }
@@ -82,7 +83,7 @@ pub fn first_item(classes: &[u8; 256], record: &[u8], at: usize) -> Ahead
 }
 
 // Passes the blanks behind an item and the byte after them: the comma before the next item, or the closing bracket.
-pub fn next_item(record: &[u8], at: usize) -> Ahead
+fn next_item(record: &[u8], at: usize) -> Ahead
     requires { ⌜ at ≤ length (now «record») ⌝ }
     ensures { λ r. ⌜ NextItem (now («record» .entry)) at (r .item) (r .at) ⌝ }
 {
@@ -163,7 +164,7 @@ fn seek_inside(
 }
 
 // The end of the value of a record that begins at `offset`, or 0 where none does.
-pub fn find_from(classes: &[u8; 256], record: &[u8], offset: usize) -> usize
+fn find_from(classes: &[u8; 256], record: &[u8], offset: usize) -> usize
     requires { ⌜ ClassTable (now classes) ⌝ }
     requires { ⌜ length (now «record») ≤ 16777216 ⌝ }
     ensures { λ r. ⌜ FindsFrom (now («record» .entry)) offset r ⌝ }
