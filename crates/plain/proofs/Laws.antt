@@ -3,7 +3,7 @@
 use mathlib.Core.Path.{_≡_, refl, sym, ap, ap₂, _∙_}
 use mathlib.Core.List.{List, [], _∷_}
 use mathlib.Core.Bool.{Bool, true, false, false≢true}
-use Prim.Native.Nat.{ℕ, zero, suc, _+_, _*_, _-_, _≤_, _<_}
+use Prim.Native.Nat.{ℕ, zero, suc, _+_, _-_, _≤_, _<_}
 use native.Mathlib.Omega.{arith}
 use lib.Dec.{eqb, eqb·suc-zero}
 use lib.ListN.{length, drop, getD, length-drop}
@@ -11,7 +11,7 @@ use lib.Seq.{slice}
 use Rattle.bits.specs.Bits.{number, digit}
 use Rattle.encoding.specs.Bytes.{putBlanks}
 use Rattle.encoding.specs.Class.{classOf}
-use Rattle.json.specs.Grammar.{Kind, Key, putKey, putValue, putMore, Tree, text}
+use Rattle.json.specs.Grammar.{Kind, Key, putKey, putValue, putMore, text}
 use Rattle.json.specs.Verdict.{maxDepth}
 use Rattle.query.specs.Holds.{Holds}
 use Rattle.query.specs.Steps.{Step}
@@ -30,9 +30,13 @@ use Rattle.marks.specs.Advances.{LabelIs, by-name, by-position, Advances}
 use Rattle.pairs.specs.Pairs.{tally, Begins, Raises}
 use Rattle.walk.specs.Ahead.{valueAt, ItemAhead, MoreAhead, ItemsAhead, ValueAhead}
 use Rattle.walk.specs.AheadLaws.{items-inside, no-items, first-item, item-value, value-here, value-inside as item-inside, value-stopped, key-solid, item-passed, more-inside, no-more, next-item}
-use Rattle.walk.specs.ValueLaws.{scalar-passed, Entered, container-entered}
+use Rattle.walk.specs.ValueLaws.{scalar-passed, container-entered}
 use Rattle.walk.specs.Walks.{Walks}
-use Rattle.plain.specs.Plain.{state, Starts, EntersChild, WalksValue, WalksItems}
+use Rattle.plain.specs.Plain.{Starts, EntersChild, WalksValue, WalksItems}
+
+-- a state by its three parts
+abbrev state : ℕ → Bool → ℕ → State
+state m p k = record { marks = m; picked = p; frames = k }
 
 -- the root
 

@@ -14,11 +14,17 @@ use Rattle.scan.specs.Scans.{kindIf}
 use Rattle.scan.specs.Shape.{solid}
 use Rattle.automaton.specs.State.{State, next, start}
 use Rattle.automaton.specs.Tally.{Tally}
+use Rattle.pairs.specs.Pairs.{tally}
 use Rattle.walk.specs.Ahead.{valueAt, ItemsAhead, ValueAhead}
+use Rattle.plain.specs.declared.Counts.{Counts}
+use Rattle.plain.specs.declared.State.{State as Carried}
 
--- a state by its three parts
-abbrev pub state : ℕ → Bool → ℕ → State
-state m p k = record { marks = m; picked = p; frames = k }
+-- a state, and a tally, by the parts that a walk carries
+abbrev pub stateOf : Carried → State
+stateOf x = record { marks = x .marks; picked = x .picked; frames = x .frames }
+
+abbrev pub tallyOf : List ℕ → Counts → Tally
+tallyOf l x = tally l (x .used) (x .peak) (x .stop)
 
 -- the state at the root of a walk for a query of n steps
 pub record Starts (n : ℕ) (st : State) : Type 0 where

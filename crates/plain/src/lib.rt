@@ -1,19 +1,17 @@
 // The plain walk: it enters each container's values one level down, as the nesting goes, and looks at every node.
 use query::Compiled;
-ghost use mathlib.Core.Path.{_≡_};
 ghost use Prim.Native.Nat.{_+_, _≤_, _<_};
 ghost use lib.ListN.{length};
 ghost use Rattle.encoding.specs.ClassTable.{ClassTable};
 ghost use Rattle.json.specs.Verdict.{maxBytes, maxDepth};
 ghost use Rattle.marks.specs.Advances.{Fits};
-ghost use Rattle.pairs.specs.Pairs.{tally};
 ghost use Rattle.walk.specs.Walks.{Walks};
-ghost use Rattle.plain.specs.Plain.{state, Starts, EntersChild, WalksValue, WalksItems};
+ghost use Rattle.plain.specs.Plain.{stateOf, tallyOf, Starts, EntersChild, WalksValue, WalksItems};
 
 // The levels that a record may nest.
 const MAX_DEPTH: usize = 512;
 
-// The classes of brackets, and the bytes that tell an object and an item that follows.
+// The classes of brackets, the bracket that opens an object, and the byte between two items.
 const OPENING: u8 = 1;
 
 const CLOSING: u8 = 2;
@@ -50,7 +48,7 @@ struct Child {
 
 // The state of the root for a query of `count` steps: mark 0 where there is a step, picked out where there is none.
 fn root_state(count: usize) -> State
-    ensures { λ r. ⌜ Starts count (state (r .marks) (r .picked) (r .frames)) ⌝ }
+    ensures { λ r. ⌜ Starts count (stateOf r) ⌝ }
 {
     if count == 0 {
         return State {
@@ -77,28 +75,24 @@ fn enter_child(
 ) -> Child
     requires { ⌜ Fits (now query) steps ⌝ }
     requires { ⌜ (at ≤ length (now «record»)) × (around .frames < maxDepth) ⌝ }
-    ensures { λ r. ⌜ EntersChild (now (query .entry)) steps (now («record» .entry)) at object (state (around .marks) (around .picked) (around .frames)) (r .at) (state (r .state .marks) (r .state .picked) (r .state .frames)) ⌝ }
+    ensures { λ r. ⌜ EntersChild (now (query .entry)) steps (now («record» .entry)) at object (stateOf around) (r .at) (stateOf (r .state)) ⌝ }
 {
     let item = scan::enter_item(record, at, object);
-    let from = item.from;
-    let to = item.to;
     let above = around.marks;
-    let child = marks::advance(query, steps, above, record, from, to, object);
-    let below = child.marks;
-    let count = around.frames;
-    let frames = marks::framed(above, below, count);
+    let next = marks::advance(query, steps, above, record, item.from, item.to, object);
+    let frames = marks::framed(above, next.marks, around.frames);
     Child {
         at: item.value,
         state: State {
-            marks: below,
-            picked: child.picked,
+            marks: next.marks,
+            picked: next.picked,
             frames,
         },
     }
 }
 
-// Walks the value at `at`, of which at most `left` levels are opened: lists it if it is picked out, counts its frames if it is a
-// container, and walks its items.
+// Walks the value at `at`, which nests at most `left` levels deep: lists it if it is picked out, counts its frames if it is a container,
+// and walks its items. Where no level is left it ends at the bracket; no checked record comes to that.
 fn walk_value(
     classes: &[u8; 256],
     query: &[u8],
@@ -113,42 +107,30 @@ fn walk_value(
     requires { ⌜ ClassTable (now classes) ⌝ }
     requires { ⌜ Fits (now query) steps ⌝ }
     requires { ⌜ (length (now «record») ≤ maxBytes) × (at ≤ length (now «record»)) × (node .frames + left ≤ maxDepth) ⌝ }
-    ensures { λ r. ⌜ WalksValue (now (query .entry)) steps (now («record» .entry)) at left (state (node .marks) (node .picked) (node .frames)) (tally (now (list .entry)) (counts .used) (counts .peak) (counts .stop)) (tally (now (list .exit)) (r .counts .used) (r .counts .peak) (r .counts .stop)) (r .end) ⌝ }
+    ensures { λ r. ⌜ WalksValue (now (query .entry)) steps (now («record» .entry)) at left (stateOf node) (tallyOf (now (list .entry)) counts) (tallyOf (now (list .exit)) (r .counts)) (r .end) ⌝ }
 {
     if at >= record.len() {
         return Walked { end: at, counts };
     }
-    let picked = node.picked;
-    let used = counts.used;
-    let stop = counts.stop;
-    let peak = counts.peak;
-    let begun = pairs::begin(list, picked, used, stop, at);
-    let begun_used = begun.used;
-    let begun_stop = begun.stop;
-    let wait = begun.wait;
+    let begun = pairs::begin(list, node.picked, counts.used, counts.stop, at);
+    let mut below = Counts {
+        used: begun.used,
+        peak: counts.peak,
+        stop: begun.stop,
+    };
     let byte = record[at];
     if encoding::class(classes, byte) != OPENING {
         let end = scan::scalar_end(classes, record, at);
-        pairs::finish(list, wait, end);
-        return Walked {
-            end,
-            counts: Counts {
-                used: begun_used,
-                peak,
-                stop: begun_stop,
-            },
-        };
+        pairs::finish(list, begun.wait, end);
+        return Walked { end, counts: below };
     }
     if left == 0 {
-        return Walked { end: at, counts };
+        return Walked {
+            end: at,
+            counts: below,
+        };
     }
-    let frames = node.frames;
-    let most = pairs::raise(peak, frames, begun_stop);
-    let entered = Counts {
-        used: begun_used,
-        peak: most,
-        stop: begun_stop,
-    };
+    below.peak = pairs::raise(counts.peak, node.frames, begun.stop);
     let object = byte == OBJECT;
     let walked = walk_items(
         classes,
@@ -160,10 +142,9 @@ fn walk_value(
         object,
         node,
         list,
-        entered,
+        below,
     );
-    let end = walked.end;
-    pairs::finish(list, wait, end);
+    pairs::finish(list, begun.wait, walked.end);
     walked
 }
 
@@ -184,43 +165,50 @@ fn walk_items(
     requires { ⌜ ClassTable (now classes) ⌝ }
     requires { ⌜ Fits (now query) steps ⌝ }
     requires { ⌜ (length (now «record») ≤ maxBytes) × (at ≤ length (now «record»)) × (node .frames + left < maxDepth) ⌝ }
-    ensures { λ r. ⌜ WalksItems (now (query .entry)) steps (now («record» .entry)) at left object (state (node .marks) (node .picked) (node .frames)) (tally (now (list .entry)) (counts .used) (counts .peak) (counts .stop)) (tally (now (list .exit)) (r .counts .used) (r .counts .peak) (r .counts .stop)) (r .end) ⌝ }
+    ensures { λ r. ⌜ WalksItems (now (query .entry)) steps (now («record» .entry)) at left object (stateOf node) (tallyOf (now (list .entry)) counts) (tallyOf (now (list .exit)) (r .counts)) (r .end) ⌝ }
 {
     let first = scan::skip_blanks(record, at);
     if first >= record.len() {
         return Walked { end: first, counts };
     }
-    let byte = record[first];
-    if encoding::class(classes, byte) == CLOSING {
-        return Walked {
-            end: first + 1,
-            counts,
-        };
+    if encoding::class(classes, record[first]) == CLOSING {
+        let end = first + 1;
+        return Walked { end, counts };
     }
     let mut i = at;
     let mut sum = counts;
     loop {
         let child = enter_child(query, steps, record, i, object, node);
-        let value = child.at;
         let below = child.state;
-        let walked = walk_value(classes, query, steps, record, value, left, below, list, sum);
-        let end = walked.end;
+        let walked = walk_value(
+            classes,
+            query,
+            steps,
+            record,
+            child.at,
+            left,
+            below,
+            list,
+            sum,
+        );
         let more = walked.counts;
         sum = more;
-        let next = scan::skip_blanks(record, end);
+        let next = scan::skip_blanks(record, walked.end);
         if next >= record.len() {
             return Walked {
                 end: next,
                 counts: sum,
             };
         }
-        if record[next] != COMMA {
+        let byte = record[next];
+        let after = next + 1;
+        if byte != COMMA {
             return Walked {
-                end: next + 1,
+                end: after,
                 counts: sum,
             };
         }
-        i = next + 1;
+        i = after;
     }
 }
 
@@ -233,9 +221,8 @@ pub fn walk_plain(query: &[u8], steps: Compiled, record: &[u8], list: &mut [u32]
 {
     let classes = encoding::classes();
     let at = scan::skip_blanks(record, 0);
-    let count = steps.count;
-    let node = root_state(count);
-    let counts = Counts {
+    let node = root_state(steps.count);
+    let none = Counts {
         used: 0,
         peak: 0,
         stop: 0,
@@ -249,7 +236,7 @@ pub fn walk_plain(query: &[u8], steps: Compiled, record: &[u8], list: &mut [u32]
         MAX_DEPTH,
         node,
         list,
-        counts,
+        none,
     );
     walked.counts
 }

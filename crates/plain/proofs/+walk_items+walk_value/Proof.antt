@@ -8,8 +8,7 @@ use lib.ListN.{length}
 use borrow.Author.Needs.{needs}
 use borrow.Fn.Kinds.{In}
 use borrow.Fn.PlainCycle.{Measures, is, falls, and}
-use Rattle.pairs.specs.Pairs.{tally}
-use Rattle.plain.specs.Plain.{state}
+use Rattle.plain.specs.Plain.{stateOf, tallyOf}
 use Rattle.plain.proofs.Laws.{value-past, value-too-deep, value-scalar, value-container, AtItem, items-cut, items-none, items-begin, item-walked, more-cut, more-none, more-again}
 use Rattle.plain.proofs.walk_items.Reads as walk-items
 use Rattle.plain.proofs.walk_items.Kinds as walk-items-kinds
@@ -76,13 +75,13 @@ value-claims t = (
 )
 
 abbrev items-inv : walk-items-lts.InvT-loop
-items-inv classes query steps «record» at left object node list₀ first byte i₀ sum₀ list i sum =
-    (length list ≡ length list₀)
-    × AtItem query steps «record» at left object (state (node .marks) (node .picked) (node .frames)) (tally list₀ (sum₀ .used) (sum₀ .peak) (sum₀ .stop)) i (tally list (sum .used) (sum .peak) (sum .stop))
+items-inv classes query steps «record» at left object node list₀ first i₀ sum₀ list i sum =
+    (length list ≡ length list₀) × AtItem query steps «record» at left object (stateOf node) (tallyOf list₀ sum₀) i (tallyOf list sum)
 
 abbrev items-measure : walk-items-lts.MeasureT-loop
-items-measure classes query steps «record» at left object node list₀ first byte i₀ sum₀ list i sum = length «record» - i
+items-measure classes query steps «record» at left object node list₀ first i₀ sum₀ list i sum = length «record» - i
 
+-- the items of a container, where the measure is t
 module _ (t : ℕ) where
   items-skip-blanks-requires : walk-items-lts.Need-skip-blanks-requires (items-claims t) (items-at t) walk-items.Post items-inv items-measure
   items-skip-blanks-requires c κs = search needs
@@ -90,14 +89,14 @@ module _ (t : ℕ) where
   items-returns : walk-items-lts.Need-returns (items-claims t) (items-at t) walk-items.Post items-inv items-measure
   items-returns c = items-cut (c .before .skip-blanks .ensures) (c .if1 .taken)
 
-  items-shared-slice-read-byte : walk-items-lts.Need-shared-slice-read-byte (items-claims t) (items-at t) walk-items.Post items-inv items-measure
-  items-shared-slice-read-byte c = search needs
+  items-shared-slice-read-class : walk-items-lts.Need-shared-slice-read-class (items-claims t) (items-at t) walk-items.Post items-inv items-measure
+  items-shared-slice-read-class c = search needs
 
   items-class-requires : walk-items-lts.Need-class-requires (items-claims t) (items-at t) walk-items.Post items-inv items-measure
   items-class-requires c κs = search needs
 
-  items-add-t26 : walk-items-lts.Need-add-t26 (items-claims t) (items-at t) walk-items.Post items-inv items-measure
-  items-add-t26 c = search needs
+  items-add-end : walk-items-lts.Need-add-end (items-claims t) (items-at t) walk-items.Post items-inv items-measure
+  items-add-end c = search needs
 
   items-returns-2 : walk-items-lts.Need-returns-2 (items-claims t) (items-at t) walk-items.Post items-inv items-measure
   items-returns-2 c = items-none (c .before .before .before .before .skip-blanks .ensures) (c .before .before .before .if1 .left) (sym (c .before .class .ensures) ∙ c .if2 .taken)
@@ -109,7 +108,10 @@ module _ (t : ℕ) where
   items-enter-child-requires c κs = search needs
 
   items-walk-value-requires : walk-items-lts.Need-walk-value-requires (items-claims t) (items-at t) walk-items.Post items-inv items-measure
-  items-walk-value-requires c κs = (omega (arith, c .before .before .before .before .before .before .before .before .before .before .before .before .pre .0), (c .before .before .before .before .before .before .before .before .before .before .before .before .pre .1 .0, (c .before .before .before .before .before .before .before .before .before .before .before .before .pre .1 .1 .0, (c .before .before .before .before .before .before .before .before .before .before .before .before .pre .1 .1 .1 .0, c .before .before .enter-child .ensures .within, omega (arith, c .before .before .before .before .before .before .before .before .before .before .before .before .pre .1 .1 .1 .2, c .before .before .enter-child .ensures .one-more)))))
+  items-walk-value-requires c κs =
+      let asked = c .before .before .before .before .before .before .before .before .before .before .before .before .pre in
+      let child = c .before .before .enter-child .ensures in
+      (omega (arith, asked .0), (asked .1 .0, (asked .1 .1 .0, (asked .1 .1 .1 .0, child .within, omega (arith, asked .1 .1 .1 .2, child .one-more)))))
 
   items-skip-blanks-requires-2 : walk-items-lts.Need-skip-blanks-requires-2 (items-claims t) (items-at t) walk-items.Post items-inv items-measure
   items-skip-blanks-requires-2 c κs = search needs
@@ -118,29 +120,33 @@ module _ (t : ℕ) where
   items-same-length c = search needs
 
   items-returns-3 : walk-items-lts.Need-returns-3 (items-claims t) (items-at t) walk-items.Post items-inv items-measure
-  items-returns-3 c = more-cut (item-walked (c .before .before .before .before .before .before .before .before .before .loop .inv .1) (c .before .before .before .before .before .before .before .before .enter-child .ensures) (c .before .before .before .before .before .walk-value .ensures)) (c .before .skip-blanks2 .ensures) (c .if3 .taken)
+  items-returns-3 c =
+      let w = c .before .before .before .before .before in
+      more-cut (item-walked (w .before .before .before .before .loop .inv .1) (w .before .before .before .enter-child .ensures) (w .walk-value .ensures)) (c .before .skip-blanks2 .ensures) (c .if3 .taken)
 
-  items-shared-slice-read-if4 : walk-items-lts.Need-shared-slice-read-if4 (items-claims t) (items-at t) walk-items.Post items-inv items-measure
-  items-shared-slice-read-if4 c = search needs
+  items-shared-slice-read-byte : walk-items-lts.Need-shared-slice-read-byte (items-claims t) (items-at t) walk-items.Post items-inv items-measure
+  items-shared-slice-read-byte c = search needs
 
-  items-add-t33 : walk-items-lts.Need-add-t33 (items-claims t) (items-at t) walk-items.Post items-inv items-measure
-  items-add-t33 c = omega (arith, c .before .before .before .before .before .before .before .before .before .before .before .before .before .before .before .before .before .before .before .before .pre .1 .1 .1 .0, c .before .before .if3 .left)
+  items-add-after : walk-items-lts.Need-add-after (items-claims t) (items-at t) walk-items.Post items-inv items-measure
+  items-add-after c = omega (arith, c .before .before .before .before .before .before .before .before .before .before .before .before .before .before .before .before .before .before .before .pre .1 .1 .1 .0, c .before .if3 .left)
 
   items-same-length-2 : walk-items-lts.Need-same-length-2 (items-claims t) (items-at t) walk-items.Post items-inv items-measure
   items-same-length-2 c = search needs
 
   items-returns-4 : walk-items-lts.Need-returns-4 (items-claims t) (items-at t) walk-items.Post items-inv items-measure
-  items-returns-4 c = more-none (item-walked (c .before .before .before .before .before .before .before .before .before .before .before .loop .inv .1) (c .before .before .before .before .before .before .before .before .before .before .enter-child .ensures) (c .before .before .before .before .before .before .before .walk-value .ensures)) (c .before .before .before .skip-blanks2 .ensures) (c .before .before .if3 .left) (c .if4 .taken)
-
-  items-add-i : walk-items-lts.Need-add-i (items-claims t) (items-at t) walk-items.Post items-inv items-measure
-  items-add-i c = omega (arith, c .before .before .before .before .before .before .before .before .before .before .before .before .before .before .before .before .before .before .before .before .pre .1 .1 .1 .0, c .before .before .if3 .left)
+  items-returns-4 c =
+      let w = c .before .before .before .before .before .before .before in
+      more-none (item-walked (w .before .before .before .before .loop .inv .1) (w .before .before .before .enter-child .ensures) (w .walk-value .ensures)) (c .before .before .before .skip-blanks2 .ensures) (c .before .before .if3 .left) (c .if4 .taken)
 
   items-loop-less : walk-items-lts.Need-loop-less (items-claims t) (items-at t) walk-items.Post items-inv items-measure
   items-loop-less c = search needs
 
   items-loop-again : walk-items-lts.Need-loop-again (items-claims t) (items-at t) walk-items.Post items-inv items-measure
-  items-loop-again c = (search needs, more-again (item-walked (c .before .before .before .before .before .before .before .before .before .before .before .loop .inv .1) (c .before .before .before .before .before .before .before .before .before .before .enter-child .ensures) (c .before .before .before .before .before .before .before .walk-value .ensures)) (c .before .before .before .skip-blanks2 .ensures) (c .before .before .if3 .left) (c .if4 .left))
+  items-loop-again c =
+      let w = c .before .before .before .before .before .before .before in
+      (search needs, more-again (item-walked (w .before .before .before .before .loop .inv .1) (w .before .before .before .enter-child .ensures) (w .walk-value .ensures)) (c .before .before .before .skip-blanks2 .ensures) (c .before .before .if3 .left) (c .if4 .left))
 
+-- a value
 module _ (t : ℕ) where
   value-returns : walk-value-lts.Need-returns (value-claims t) (value-at t) walk-value.Post
   value-returns c = value-past (c .before .before .before .before .pre .1 .1 .1 .1) (c .if1 .taken)
@@ -182,7 +188,9 @@ module _ (t : ℕ) where
   value-sub-walk-items c = search needs
 
   value-walk-items-requires : walk-value-lts.Need-walk-items-requires (value-claims t) (value-at t) walk-value.Post
-  value-walk-items-requires c κs = (omega (arith, c .before .before .before .before .before .before .before .before .before .before .before .before .before .before .pre .0, c .before .before .if3 .left), (c .before .before .before .before .before .before .before .before .before .before .before .before .before .before .pre .1 .0, (c .before .before .before .before .before .before .before .before .before .before .before .before .before .before .pre .1 .1 .0, (c .before .before .before .before .before .before .before .before .before .before .before .before .before .before .pre .1 .1 .1 .0, omega (arith, c .before .before .before .before .before .before .before .before .before .before .if1 .left), omega (arith, c .before .before .before .before .before .before .before .before .before .before .before .before .before .before .pre .1 .1 .1 .2, c .before .before .if3 .left)))))
+  value-walk-items-requires c κs =
+      let asked = c .before .before .before .before .before .before .before .before .before .before .before .before .before .before .pre in
+      (omega (arith, asked .0, c .before .before .if3 .left), (asked .1 .0, (asked .1 .1 .0, (asked .1 .1 .1 .0, omega (arith, c .before .before .before .before .before .before .before .before .before .before .if1 .left), omega (arith, asked .1 .1 .1 .2, c .before .before .if3 .left)))))
 
   value-finish-requires-2 : walk-value-lts.Need-finish-requires-2 (value-claims t) (value-at t) walk-value.Post
   value-finish-requires-2 c κs = omega (arith, c .before .before .before .before .before .before .before .before .before .before .before .before .before .before .before .before .before .before .pre .1 .1 .1 .0, c .before .before .before .walk-items .ensures .within)
@@ -191,7 +199,9 @@ module _ (t : ℕ) where
   value-same-length-3 c = search needs
 
   value-returns-4 : walk-value-lts.Need-returns-4 (value-claims t) (value-at t) walk-value.Post
-  value-returns-4 c = value-container (c .before .before .before .before .before .before .before .before .before .before .before .before .before .before .before .begin .ensures) (sym (c .before .before .before .before .before .before .before .before .before .before .before .class .ensures) ∙ c .before .before .before .before .before .before .before .before .before .before .if2 .left) (c .before .before .before .before .before .before .before .before .raise .ensures) (c .before .before .before .before .before .before .walk-items .ensures) (c .before .before .finish2 .ensures)
+  value-returns-4 c =
+      let w = c .before .before .before .before .before .before .before .before .before .before .before in
+      value-container (w .before .before .before .before .begin .ensures) (sym (w .class .ensures) ∙ c .before .before .before .before .before .before .before .before .before .before .if2 .left) (c .before .before .before .before .before .before .before .before .raise .ensures) (c .before .before .before .before .before .before .walk-items .ensures) (c .before .before .finish2 .ensures)
 
 pub +walk-items+walk-value-spec : {M : Type 1} → statement M
 +walk-items+walk-value-spec =
@@ -206,9 +216,9 @@ pub +walk-items+walk-value-spec : {M : Type 1} → statement M
     items-measure
     (items-skip-blanks-requires t)
     (items-returns t)
-    (items-shared-slice-read-byte t)
+    (items-shared-slice-read-class t)
     (items-class-requires t)
-    (items-add-t26 t)
+    (items-add-end t)
     (items-returns-2 t)
     (items-loop-holds t)
     (items-enter-child-requires t)
@@ -216,11 +226,10 @@ pub +walk-items+walk-value-spec : {M : Type 1} → statement M
     (items-skip-blanks-requires-2 t)
     (items-same-length t)
     (items-returns-3 t)
-    (items-shared-slice-read-if4 t)
-    (items-add-t33 t)
+    (items-shared-slice-read-byte t)
+    (items-add-after t)
     (items-same-length-2 t)
     (items-returns-4 t)
-    (items-add-i t)
     (items-loop-less t)
     (items-loop-again t))
     (λ t. walk-value-lts.spec
