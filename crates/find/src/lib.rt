@@ -10,6 +10,7 @@ ghost use mathlib.Core.Path.{_≡_};
 ghost use Prim.Native.Nat.{_≤_};
 ghost use lib.ListN.{length};
 ghost use Rattle.encoding.specs.ClassTable.{ClassTable};
+ghost use Rattle.json.specs.Verdict.{maxBytes};
 ghost use Rattle.answers.specs.Finder.{Finds, valuePart};
 ghost use Rattle.find.specs.Seeks.{EndsValue, FirstItem, NextItem, SeeksValue, SeeksInside, FindsFrom};
 
@@ -51,7 +52,7 @@ struct Sought {
 // The place after the value at `at`.
 fn value_end(classes: &[u8; 256], record: &[u8], at: usize) -> usize
     requires { ⌜ ClassTable (now classes) ⌝ }
-    requires { ⌜ (at ≤ length (now «record»)) × (length (now «record») ≤ 16777216) ⌝ }
+    requires { ⌜ (at ≤ length (now «record»)) × (length (now «record») ≤ maxBytes) ⌝ }
     ensures { λ r. ⌜ EndsValue (now («record» .entry)) at r ⌝ }
 {
     if at >= record.len() {
@@ -106,7 +107,7 @@ fn next_item(record: &[u8], at: usize) -> Ahead
 // Looks for the value that begins at `offset` in the value at `at`: itself or one below it, of which `levels` may be opened.
 fn seek_value(classes: &[u8; 256], record: &[u8], offset: usize, at: usize, levels: usize) -> Sought
     requires { ⌜ ClassTable (now classes) ⌝ }
-    requires { ⌜ (at ≤ length (now «record»)) × (length (now «record») ≤ 16777216) ⌝ }
+    requires { ⌜ (at ≤ length (now «record»)) × (length (now «record») ≤ maxBytes) ⌝ }
     ensures { λ r. ⌜ SeeksValue (now («record» .entry)) offset at levels (r .end) (r .at) ⌝ }
 {
     if at == offset {
@@ -145,7 +146,7 @@ fn seek_inside(
     levels: usize,
 ) -> Sought
     requires { ⌜ ClassTable (now classes) ⌝ }
-    requires { ⌜ (at ≤ length (now «record»)) × (length (now «record») ≤ 16777216) ⌝ }
+    requires { ⌜ (at ≤ length (now «record»)) × (length (now «record») ≤ maxBytes) ⌝ }
     ensures { λ r. ⌜ SeeksInside (now («record» .entry)) offset at object levels (r .end) (r .at) ⌝ }
 {
     let mut ahead = first_item(classes, record, at);
@@ -166,7 +167,7 @@ fn seek_inside(
 // The end of the value of a record that begins at `offset`, or 0 where none does.
 fn find_from(classes: &[u8; 256], record: &[u8], offset: usize) -> usize
     requires { ⌜ ClassTable (now classes) ⌝ }
-    requires { ⌜ length (now «record») ≤ 16777216 ⌝ }
+    requires { ⌜ length (now «record») ≤ maxBytes ⌝ }
     ensures { λ r. ⌜ FindsFrom (now («record» .entry)) offset r ⌝ }
 {
     let at = skip_blanks(record, 0);
@@ -174,8 +175,8 @@ fn find_from(classes: &[u8; 256], record: &[u8], offset: usize) -> usize
     sought.end
 }
 
-// The value finder: the end of the value that begins at `offset`; a record that is not taken is refused first, and then an offset that is
-// not the first byte of a value.
+// The value finder: the end of the value that begins at `offset`. Grounds 4 to 6 refuse the record first, and then ground 8 an offset that
+// is not the first byte of a value; the end is 0 then.
 pub fn find_value(record: &[u8], offset: usize) -> Found
     ensures { λ r. ⌜ Finds (now («record» .entry)) offset (r .ground) (r .place) (r .end) ⌝ }
 {

@@ -88,16 +88,24 @@ seek-inside-seek-value-requires : (t : ℕ) → seek-inside-lts.Need-seek-value-
 seek-inside-seek-value-requires t c κs = search needs
 
 seek-inside-returns : (t : ℕ) → seek-inside-lts.Need-returns (seek-inside-claims t) (seek-inside-at t) seek-inside.Post seek-inside-Inv-loop seek-inside-μ-loop
-seek-inside-returns t c = going-found _ _ _ _ _ _ _ (c .before .before .before .before .before .loop .inv) (c .before .before .before .before .loop-test .taken) _ _ _ (c .before .before .before .enter-item .ensures) _ _ (c .before .before .seek-value .ensures) (c .if1 .taken)
+seek-inside-returns t c =
+    going-found _ _ _ _ _ _ _ (c .before .before .before .before .before .loop .inv) (c .before .before .before .before .loop-test .taken) _
+    _ _ (c .before .before .before .enter-item .ensures) _ _ (c .before .before .seek-value .ensures) (c .if1 .taken)
 
 seek-inside-next-item-requires : (t : ℕ) → seek-inside-lts.Need-next-item-requires (seek-inside-claims t) (seek-inside-at t) seek-inside.Post seek-inside-Inv-loop seek-inside-μ-loop
 seek-inside-next-item-requires t c κs = search needs
 
 seek-inside-loop-less : (t : ℕ) → seek-inside-lts.Need-loop-less (seek-inside-claims t) (seek-inside-at t) seek-inside.Post seek-inside-Inv-loop seek-inside-μ-loop
-seek-inside-loop-less t c = going-falls _ _ _ _ _ _ _ (c .before .before .before .before .before .before .loop .inv) (c .before .before .before .before .before .loop-test .taken) _ _ _ (c .before .before .before .before .enter-item .ensures) _ _ (c .before .before .before .seek-value .ensures) _ _ (c .next-item .ensures)
+seek-inside-loop-less t c =
+    going-falls _ _ _ _ _ _ _ (c .before .before .before .before .before .before .loop .inv)
+    (c .before .before .before .before .before .loop-test .taken) _ _ _ (c .before .before .before .before .enter-item .ensures) _ _
+    (c .before .before .before .seek-value .ensures) _ _ (c .next-item .ensures)
 
 seek-inside-loop-again : (t : ℕ) → seek-inside-lts.Need-loop-again (seek-inside-claims t) (seek-inside-at t) seek-inside.Post seek-inside-Inv-loop seek-inside-μ-loop
-seek-inside-loop-again t c = going-on _ _ _ _ _ _ _ (c .before .before .before .before .before .before .loop .inv) (c .before .before .before .before .before .loop-test .taken) _ _ _ (c .before .before .before .before .enter-item .ensures) _ _ (c .before .before .before .seek-value .ensures) (c .before .if1 .left) _ _ (c .next-item .ensures)
+seek-inside-loop-again t c =
+    going-on _ _ _ _ _ _ _ (c .before .before .before .before .before .before .loop .inv)
+    (c .before .before .before .before .before .loop-test .taken) _ _ _ (c .before .before .before .before .enter-item .ensures) _ _
+    (c .before .before .before .seek-value .ensures) (c .before .if1 .left) _ _ (c .next-item .ensures)
 
 seek-inside-returns-2 : (t : ℕ) → seek-inside-lts.Need-returns-2 (seek-inside-claims t) (seek-inside-at t) seek-inside.Post seek-inside-Inv-loop seek-inside-μ-loop
 seek-inside-returns-2 t c = going-left _ _ _ _ _ _ _ (c .before .loop .inv) (c .loop-test .left)
@@ -127,10 +135,14 @@ seek-value-scalar-end-requires : (t : ℕ) → seek-value-lts.Need-scalar-end-re
 seek-value-scalar-end-requires t c κs = search needs
 
 seek-value-returns-4 : (t : ℕ) → seek-value-lts.Need-returns-4 (seek-value-claims t) (seek-value-at t) seek-value.Post
-seek-value-returns-4 t c = seeks-scalar _ _ _ _ _ (c .before .before .before .before .before .before .if1 .left) (λ z. c .before .if4 .taken (c .before .before .class .ensures ∙ z)) (c .scalar-end .ensures)
+seek-value-returns-4 t c =
+    seeks-scalar _ _ _ _ _ (c .before .before .before .before .before .before .if1 .left)
+    (λ z. c .before .if4 .taken (c .before .before .class .ensures ∙ z)) (c .scalar-end .ensures)
 
 seek-value-returns-5 : (t : ℕ) → seek-value-lts.Need-returns-5 (seek-value-claims t) (seek-value-at t) seek-value.Post
-seek-value-returns-5 t c = seeks-deeper _ _ _ _ (c .before .before .before .before .before .before .before .before .pre .1 .1 .0) (sym (c .before .before .class .ensures) ∙ c .before .if4 .left) (c .if5 .taken)
+seek-value-returns-5 t c =
+    seeks-deeper _ _ _ _ (c .before .before .before .before .before .before .before .before .pre .1 .1 .0)
+    (sym (c .before .before .class .ensures) ∙ c .before .if4 .left) (c .if5 .taken)
 
 seek-value-add-seek-inside : (t : ℕ) → seek-value-lts.Need-add-seek-inside (seek-value-claims t) (seek-value-at t) seek-value.Post
 seek-value-add-seek-inside t c = search needs
@@ -139,10 +151,14 @@ seek-value-sub-seek-inside : (t : ℕ) → seek-value-lts.Need-sub-seek-inside (
 seek-value-sub-seek-inside t c = search needs
 
 seek-value-seek-inside-requires : (t : ℕ) → seek-value-lts.Need-seek-inside-requires (seek-value-claims t) (seek-value-at t) seek-value.Post
-seek-value-seek-inside-requires t c κs = (omega (arith, c .before .before .before .before .before .before .before .before .pre .0, c .if5 .left), (c .before .before .before .before .before .before .before .before .pre .1 .0, (omega (arith, c .before .before .before .before .if3 .left), c .before .before .before .before .before .before .before .before .pre .1 .1 .1)))
+seek-value-seek-inside-requires t c κs =
+    let pre = c .before .before .before .before .before .before .before .before .pre in
+    (omega (arith, c .if5 .left), (pre .1 .0, (omega (arith, c .before .before .before .before .if3 .left), pre .1 .1 .1)))
 
 seek-value-returns-6 : (t : ℕ) → seek-value-lts.Need-returns-6 (seek-value-claims t) (seek-value-at t) seek-value.Post
-seek-value-returns-6 t c = seeks-below _ _ _ _ _ _ (c .before .before .before .before .before .before .before .if1 .left) (sym (c .before .before .before .class .ensures) ∙ c .before .before .if4 .left) (c .before .if5 .left) (c .seek-inside .ensures)
+seek-value-returns-6 t c =
+    seeks-below _ _ _ _ _ _ (c .before .before .before .before .before .before .before .if1 .left)
+    (sym (c .before .before .before .class .ensures) ∙ c .before .before .if4 .left) (c .before .if5 .left) (c .seek-inside .ensures)
 
 pub +seek-inside+seek-value-spec : {M : Type 1} → statement M
 +seek-inside+seek-value-spec = close μ-seek-inside μ-seek-value (λ t. seek-inside-lts.spec (seek-inside-claims t)

@@ -14,13 +14,18 @@ classes-requires : tie.Need-classes-requires
 classes-requires c κs = search needs
 
 find-from-requires : tie.Need-find-from-requires
-find-from-requires c κs = (c .before .classes .ensures, record-is (c .before .before .before .before .check-record .ensures) (c .before .before .if1 .left) .1 .bytes)
+find-from-requires c κs =
+    (c .before .classes .ensures, record-is (c .before .before .before .before .check-record .ensures) (c .before .before .if1 .left) .1 .bytes)
 
 returns-2 : tie.Need-returns-2
-returns-2 c = finds-none _ _ (record-is (c .before .before .before .before .before .before .check-record .ensures) (c .before .before .before .before .if1 .left) .1) (c .before .find-from .ensures) (c .if2 .taken)
+returns-2 c =
+    finds-none _ _ (record-is (c .before .before .before .before .before .before .check-record .ensures) (c .before .before .before .before .if1 .left) .1)
+    (c .before .find-from .ensures) (c .if2 .taken)
 
 returns-3 : tie.Need-returns-3
-returns-3 c = finds-end _ _ (record-is (c .before .before .before .before .before .before .check-record .ensures) (c .before .before .before .before .if1 .left) .1) (c .before .find-from .ensures) (c .if2 .left)
+returns-3 c =
+    finds-end _ _ (record-is (c .before .before .before .before .before .before .check-record .ensures) (c .before .before .before .before .if1 .left) .1)
+    (c .before .find-from .ensures) (c .if2 .left)
 
 pub find-value-spec : {M : Type 1} → statement M
 find-value-spec =
