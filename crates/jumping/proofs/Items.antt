@@ -1,0 +1,124 @@
+-- From an item to its value, and on from a value: the innermost container's next item, or the container around it. Assumes nothing.
+use mathlib.Core.Path.{_≡_, refl, sym, ap, ap₂, subst, _∙_}
+use mathlib.Core.List.{List}
+use mathlib.Core.Bool.{Bool, true, false, false≢true, true≢false}
+use Prim.Native.Nat.{ℕ, _+_, _-_, _≤_, _<_}
+use native.Mathlib.Omega.{arith}
+use lib.Dec.{eqb}
+use lib.ListN.{length, getD, drop, length-drop}
+use lib.Seq.{slice}
+use Rattle.json.specs.Grammar.{Key, putKey, putValue, putMore}
+use Rattle.json.specs.Verdict.{maxDepth}
+use Rattle.query.specs.Holds.{Holds}
+use Rattle.query.specs.Steps.{Step}
+use Rattle.query.specs.declared.compiled.Compiled.{Compiled}
+use Rattle.select.specs.Nodes.{Label, size, labelOf}
+use Rattle.select.specs.Visits.{visits}
+use Rattle.select.specs.Ways.{frameIf}
+use Rattle.scan.specs.Places.{past-blanks, past-key}
+use Rattle.scan.specs.Scans.{EndsBlanks, kindIf, NameAt, EntersItem}
+use Rattle.marks.specs.Advances.{LabelIs, by-name, by-position, Advances}
+use Rattle.automaton.specs.State.{State, nextMarks, nextPicked, next}
+use Rattle.automaton.specs.Tally.{Tally, tallied}
+use Rattle.automaton.specs.Halves.{finish}
+use Rattle.walk.specs.Ahead.{valueAt}
+use Rattle.walk.specs.AheadLaws as A
+use Rattle.jumping.specs.Pile.{Pile, pile, kindAt, Open, Level, Passed, root, item, ItemDue, ValueDue}
+use Rattle.jumping.specs.Turns.{Pops}
+use Rattle.jumping.proofs.Frames.{popped}
+
+-- the label of an item by where its name's bytes are
+label-is : (s : List ℕ) (a e : ℕ) (b : Bool) (key : Key (kindIf b)) (j : ℕ) → NameAt (kindIf b) key s a e → LabelIs (slice a e s) b (labelOf (kindIf b) key j)
+unfolding labelOf
+label-is s a e true key j h = rw h by-name
+label-is s a e false key j h = by-position j
+
+-- a text that is not empty ends the record from one place only
+same-place : (s : List ℕ) (a b : ℕ) → a < length s → drop a s ≡ drop b s → b ≡ a
+same-place s a b h e = omega (arith, length-drop a s, length-drop b s, ap length e)
+
+module _ {q : List ℕ} {c : Compiled} {x : List Step} (holds : Holds q x c) {s : List ℕ} {whole : Tally} {z : Pile} {i : ℕ} {t : Tally} {d f m : ℕ} {b : Bool} {v a e m′ : ℕ} {p : Bool}
+    (due : ItemDue x s whole z i t d f m) (object : b ≡ eqb (getD (z .brackets) (d - 1) 0) 0x7B) (enters : EntersItem s i b v a e)
+    (advances : Advances q c m (slice a e s) b m′ p) where
+  object-is : b ≡ eqb (due .o .bracket) 0x7B
+  object-is =
+      let y : d - 1 ≡ due .o .depth = omega (arith, due .level .depth) in
+      object ∙ ap (λ (n : ℕ). eqb (getD (z .brackets) n 0) 0x7B) y ∙ ap (λ (n : ℕ). eqb n 0x7B) (due .level .bracket)
+
+  pub item-due : ValueDue x s whole z v t m′ p d f m
+  unfolding next
+  item-due =
+      let o = due .o in
+      let y = due .ahead in
+      let k = kindAt (o .bracket) in
+      let at = A.item-value (next x) s (o .rest) k (o .state) (o .room) (o .inner) (o .end) i t y in
+      let here = A.value-here (next x) s (o .rest) k (o .state) (o .room) (o .inner) (o .end) i t y in
+      let rest = putMore (y .m) (o .rest) in
+      let l = labelOf k (y .key) (y .j) in
+      let g = subst (λ (n : Bool). EntersItem s i n v a e) object-is enters .exact (y .w) (y .key) (putValue (y .v) rest) (y .here)
+      (A.key-solid (next x) s (o .rest) k (o .state) (o .room) (o .inner) (o .end) i t y) in
+      let label = label-is s a e (eqb (o .bracket) 0x7B) (y .key) (y .j) (g .1) in
+      let moves = subst (λ (n : Bool). Advances q c m (slice a e s) n m′ p) object-is advances in
+      let goal : Tally = tallied t (visits (next x) (y .v) (next x (o .state) l) v) in
+      let marks : m′ ≡ nextMarks x (o .state .marks) l = moves .marks-are x holds l label ∙ ap (λ (n : ℕ). nextMarks x n l) (due .level .marks) in
+      let picked : p ≡ nextPicked x (o .state .marks) l = moves .picked-is x holds l label ∙ ap (λ (n : ℕ). nextPicked x n l) (due .level .marks) in
+      let place : v ≡ at =
+      g .0
+      ∙ same-place s at (valueAt k i (y .w) (y .key)) (A.value-inside (next x) s (o .rest) k (o .state) (o .room) (o .inner) (o .end) i t y)
+      (here ∙ sym (past-key s (i + length (y .w)) k (y .key) (putValue (y .v) rest) (past-blanks s i (y .w) (putKey k (y .key) (putValue (y .v) rest)) (y .here)))) in
+      record {
+        state = next x (o .state) l;
+        rest = rest;
+        room = o .room;
+        goal = goal;
+        end = v + size (y .v);
+        fits = due .level .fits;
+        marks-are = sym marks;
+        picked-is = sym picked;
+        frames-are =
+            ap (λ (n : ℕ). frameIf (eqb (o .state .marks) n) (o .state .frames)) (sym marks)
+            ∙ ap₂ (λ (n j : ℕ). frameIf (eqb n m′) j) (sym (due .level .marks)) (sym (due .level .frames));
+        ahead =
+            record {
+              v = y .v;
+              here = ap (λ (n : ℕ). drop n s) place ∙ here;
+              stops = A.value-stopped (next x) s (o .rest) k (o .state) (o .room) (o .inner) (o .end) i t y;
+              shallow = y .shallow;
+              runs = refl;
+              ends = refl;
+            };
+        after =
+            item o (due .level)
+            (A.item-passed (next x) s (o .rest) k (o .state) (o .room) (o .inner) (o .end) i t y (v + size (y .v)) goal (ap (λ (n : ℕ). n + size (y .v)) place)
+            (ap (λ (n : ℕ). tallied t (visits (next x) (y .v) (next x (o .state) l) n)) (sym place)))
+            (due .after);
+      }
+
+-- after a value in a container
+module _ {x : List Step} {s : List ℕ} {whole : Tally} {z : Pile} {i : ℕ} {t : Tally} {d f m c : ℕ} (inner : d ≡ 0 → ⊥) (blanks : EndsBlanks s i c) where
+  -- something follows
+  pub past-inside : Passed x s whole z i t d f m → c < length s
+  past-inside (root h e1 e2 e3) = absurd (inner e1)
+  past-inside (item o l a p) = A.more-inside (next x) s (o .rest) (kindAt (o .bracket)) (o .state) (o .room) (o .inner) (o .end) i c t a blanks
+
+  -- a comma, and then an item
+  pub past-comma : getD s c 0 ≡ 0x2C → Passed x s whole z i t d f m → ItemDue x s whole z (c + 1) t d f m
+  past-comma e (root h e1 e2 e3) = absurd (inner e1)
+  past-comma e (item o l a p) =
+      record {
+        o = o;
+        level = l;
+        ahead = A.next-item (next x) s (o .rest) (kindAt (o .bracket)) (o .state) (o .room) (o .inner) (o .end) i c t a blanks e;
+        after = p;
+      }
+
+  -- the closing bracket: the container is left
+  pub past-closed : {f′ m′ : ℕ} → (getD s c 0 ≡ 0x2C → ⊥) → Pops (z .levels) (z .held) f (d - 1) m f′ m′ → Passed x s whole z i t d f m
+      → Passed x s whole z (c + 1) (finish (getD (z .waits) (d - 1) 0) (c + 1) t) (d - 1) f′ m′
+  past-closed e y (root h e1 e2 e3) = absurd (inner e1)
+  past-closed {f′} {m′} e y (item o l a p) =
+      let n = A.no-more (next x) s (o .rest) (kindAt (o .bracket)) (o .state) (o .room) (o .inner) (o .end) i c t a blanks e in
+      let k : d - 1 ≡ o .depth = omega (arith, l .depth) in
+      let w : getD (z .waits) (d - 1) 0 ≡ o .wait = ap (λ (j : ℕ). getD (z .waits) j 0) k ∙ l .wait in
+      let g = popped l p (subst (λ (j : ℕ). Pops (z .levels) (z .held) f j m f′ m′) k y) in
+      rw (w, k, g .0, g .1, n .0, ← n .1) p

@@ -1,0 +1,4 @@
+pub mod Frames
+pub mod Items
+pub mod Root
+pub mod Values

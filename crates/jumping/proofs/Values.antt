@@ -1,0 +1,228 @@
+-- A value that is ahead is passed with its tally, or a container is entered: the laws of what is ahead, with the pile around. Assumes nothing.
+use mathlib.Core.Path.{_≡_, refl, sym, ap, ap₂, subst, _∙_}
+use mathlib.Core.List.{List, [], _∷_}
+use mathlib.Core.Logic.{_⊎_, inl, inr, ⊎-elim}
+use mathlib.Core.Bool.{Bool, true, false, false≢true, true≢false}
+use Prim.Native.Nat.{ℕ, zero, suc, _+_, _-_, _≤_, _<_, max}
+use native.Mathlib.Nat.{le-max-right}
+use native.Mathlib.Omega.{arith}
+use lib.Dec.{eqb}
+use lib.ListN.{length, getD, drop}
+use Rattle.encoding.specs.Class.{classOf}
+use Rattle.json.specs.Grammar.{putValue}
+use Rattle.json.specs.Verdict.{maxDepth}
+use Rattle.query.specs.Steps.{Step}
+use Rattle.select.specs.Ways.{frameIf}
+use Rattle.select.specs.Visits.{itemsVisits}
+use Rattle.scan.specs.Places.{head-of}
+use Rattle.scan.specs.Shape.{starts}
+use Rattle.scan.specs.ShapeLaws.{starts-value}
+use Rattle.scan.specs.Scans.{EndsBlanks, EndsScalar}
+use Rattle.leap.specs.Brackets.{Leaves}
+use Rattle.automaton.specs.State.{State, next}
+use Rattle.automaton.specs.Tally.{Tally, raiseFrom, raised, tallied}
+use Rattle.automaton.specs.TallyIs.{tallied-stopped}
+use Rattle.automaton.specs.Dead.{items-dead}
+use Rattle.automaton.specs.Halves.{begin, waiting, endPair, finish}
+use Rattle.pairs.specs.Pairs.{tally, Begins, Raises}
+use Rattle.walk.specs.Ahead.{ItemsAhead, ValueAhead}
+use Rattle.walk.specs.AheadLaws.{items-inside, no-items, first-item}
+use Rattle.walk.specs.ValueLaws.{scalar-passed, container-entered, Entered}
+use Rattle.jumping.specs.Pile.{Pile, pile, kept, Sized, Open, kindAt, Level, Passed, ItemDue, ValueDue, ContainerDue}
+use Rattle.jumping.specs.Turns.{tallyOf, Due, Onward, Lost, PassedTo, EnteredAt, Skipped}
+use Rattle.jumping.specs.declared.pile.Standing.{Standing}
+use Rattle.jumping.proofs.Frames.{passed-sized, passed-few, passed-kept, level-new}
+
+-- where the steps lead
+pub onward-lost : {n i j : ℕ} {a r : Standing} → Lost j a r → i ≤ j + 1 → j ≤ n → a .frames ≤ maxDepth → Onward n i r
+onward-lost y h g k =
+    rw (y .is)
+    (record {
+      onward = omega arith;
+      farther = λ e. absurd (false≢true e);
+      within = omega arith;
+      inside = λ e. absurd (e refl);
+      in-container = λ e. absurd (false≢true e);
+      room = omega arith;
+      few = k;
+    })
+
+pub onward-passed : {n i e w : ℕ} {l l′ : List ℕ} {a r : Standing} → PassedTo l l′ w e a r → i ≤ e → e ≤ n → a .depth ≤ maxDepth → a .frames ≤ maxDepth → Onward n i r
+onward-passed y h g k j =
+    rw (y .is)
+    (record {
+      onward = h;
+      farther = λ e. absurd (false≢true e);
+      within = omega arith;
+      inside = λ e. g;
+      in-container = λ e. absurd (false≢true e);
+      room = k;
+      few = j;
+    })
+
+pub lost-farther : {i : ℕ} {a r : Standing} → Lost i a r → i < r .at
+lost-farther y = rw (y .is) (omega arith)
+
+pub passed-farther : {i e w : ℕ} {l l′ : List ℕ} {a r : Standing} → PassedTo l l′ w e a r → i < e → i < r .at
+passed-farther y h = rw (y .is) h
+
+pub onward-entered : {n i b j w f m : ℕ} {z z′ : Pile} {a r : Standing} → EnteredAt z z′ b j w f m a r → i < j → j ≤ n → a .depth < maxDepth → f ≤ maxDepth → Onward n i r
+onward-entered y h g k e =
+    rw (y .is)
+    (record {
+      onward = omega arith;
+      farther = λ e. h;
+      within = omega arith;
+      inside = λ e. g;
+      in-container = λ e. λ e. absurd (omega arith);
+      room = omega arith;
+      few = e;
+    })
+
+module _ {x : List Step} {s : List ℕ} {whole : Tally} where
+  passed-as : {z : Pile} {i j : ℕ} {t u : Tally} {d f m : ℕ} → j ≡ i → u ≡ t → Passed x s whole z i t d f m → Passed x s whole z j u d f m
+  passed-as e1 e2 p = rw (e1, e2) p
+
+  -- a value has been passed
+  pub due-passed : {z : Pile} {l l′ : List ℕ} {w e : ℕ} {a r : Standing} → PassedTo l l′ w e a r
+      → Passed x s whole z e (finish w e (tallyOf l a)) (a .depth) (a .frames) (a .marks) → Due x s whole z l′ r
+  unfolding finish
+  due-passed y p =
+      rw (y .is, y .list-is) (record { root = λ e. absurd (false≢true e); item = λ e. absurd (false≢true e); passed = λ e. p })
+
+  -- a container has been entered
+  pub due-entered : {z z′ : Pile} {l : List ℕ} {b i w f m : ℕ} {a r : Standing} → EnteredAt z z′ b i w f m a r
+      → ItemDue x s whole (kept z (a .frames) (a .depth) (a .marks) w b) i (tallyOf l a) (a .depth + 1) f m → Due x s whole z′ l r
+  due-entered y p =
+      rw (y .is, y .pile-is) (record { root = λ e g. absurd (omega arith); item = λ e g. p; passed = λ e. absurd (true≢false e) })
+
+-- what begins a value stands in the record
+starts-inside : (s xs : List ℕ) (i : ℕ) → starts xs ≡ true → drop i s ≡ xs → i < length s
+unfolding starts
+starts-inside s [] i h e = absurd (false≢true h)
+starts-inside s (b ∷ xs) i h e = head-of s i b xs e .inside
+
+pub value-inside : {x : List Step} {s : List ℕ} {whole : Tally} {z : Pile} {i : ℕ} {t : Tally} {m′ : ℕ} {p : Bool} {d f m : ℕ} → ValueDue x s whole z i t m′ p d f m → i < length s
+value-inside {s = s} {i = i} v = starts-inside s (putValue (v .ahead .v) (v .rest)) i (starts-value (v .ahead .v) (v .rest)) (v .ahead .here)
+
+module _ {x : List Step} {s : List ℕ} {whole : Tally} {z : Pile} {i : ℕ} {l : List ℕ} {u h k m′ : ℕ} {p : Bool} {d f m : ℕ} {l′ : List ℕ} {u′ k′ w : ℕ}
+    (v : ValueDue x s whole z i (tally l u h k) m′ p d f m) (g : Begins p l u k i l′ u′ k′ w) where
+  begun-is : begin (v .state .picked) (tally l u h k) i ≡ tally l′ u′ h k′
+  begun-is = ap (λ (b : Bool). begin b (tally l u h k) i) (v .picked-is) ∙ g .begun h
+
+  waits-is : waiting (v .state .picked) (tally l u h k) ≡ w
+  waits-is = ap (λ (b : Bool). waiting b (tally l u h k)) (v .picked-is) ∙ g .waits h
+
+  -- a scalar
+  pub scalar-due : {e : ℕ} → (classOf (getD s i 0) ≡ 1 → ⊥) → EndsScalar s i e → Passed x s whole z e (finish w e (tally l′ u′ h k′)) d f m
+  scalar-due {e} c q =
+      let y = scalar-passed (next x) s (v .rest) (v .state) (v .room) (v .goal) (v .end) i (tally l u h k) (v .ahead) e c q in
+      passed-as (y .1) (ap₂ (λ (n : ℕ) (t : Tally). finish n e t) (sym waits-is) (sym begun-is) ∙ y .0) (v .after)
+
+  -- a container
+  pub container-due : classOf (getD s i 0) ≡ 1 → ContainerDue x s whole z i (tally l′ u′ h k′) w m′ d f m
+  container-due c =
+      let y = container-entered (next x) s (v .rest) (v .state) (v .room) (v .goal) (v .end) i (tally l u h k) (v .ahead) c in
+      record {
+        state = v .state;
+        rest = v .rest;
+        room = v .room - 1;
+        inner = y .inner;
+        end = v .end;
+        fits = omega (arith, v .fits, y .levels);
+        marks-are = v .marks-are;
+        frames-are = v .frames-are;
+        ahead =
+            subst (λ (t : Tally). ItemsAhead (next x) s (v .rest) (kindAt (getD s i 0)) (v .state) (v .room - 1) (y .inner) (v .end) (i + 1) (raised (v .state .frames) t))
+            begun-is (y .ahead);
+        after = passed-as refl (ap (λ (n : ℕ). finish n (v .end) (y .inner)) (sym waits-is) ∙ y .closes) (v .after);
+      }
+
+-- the frames that a container has are counted then
+raised-counted : (f : ℕ) (t : Tally) → raised f t .stop ≡ 0 → f ≤ raised f t .peak
+unfolding raised raiseFrom
+raised-counted f t e = go (t .stop) refl e
+  where
+    go : (k : ℕ) → t .stop ≡ k → raiseFrom k f t .stop ≡ 0 → f ≤ raiseFrom k f t .peak
+    go zero y e = le-max-right (t .peak) f
+    go (suc k) y e = absurd (omega arith)
+
+-- items that change nothing: those of a container without marks, and all after a stop
+pub framed-fits : (b : Bool) {f f′ : ℕ} → f′ ≡ frameIf b f → f < maxDepth → f′ ≤ maxDepth
+unfolding frameIf
+framed-fits true e h = omega arith
+framed-fits false e h = omega arith
+
+-- there is a level and a frame for the container
+pub has-level : {x : List Step} {s : List ℕ} {whole : Tally} {z : Pile} {i : ℕ} {t : Tally} {w m′ d f m : ℕ} → ContainerDue x s whole z i t w m′ d f m → d < maxDepth
+has-level v = omega (arith, v .fits)
+
+pub has-frame : {x : List Step} {s : List ℕ} {whole : Tally} {z : Pile} {i : ℕ} {t : Tally} {w m′ d f m : ℕ} → ContainerDue x s whole z i t w m′ d f m → f < maxDepth
+has-frame v = omega (arith, v .fits, passed-few (v .after))
+
+module _ {x : List Step} {s : List ℕ} {whole : Tally} {z : Pile} {i : ℕ} {l : List ℕ} {u h k w m′ d f m f′ h′ : ℕ}
+    (v : ContainerDue x s whole z i (tally l u h k) w m′ d f m) (g : f′ ≡ frameIf (eqb m m′) f) (r : Raises h f′ k h′) where
+  frames-is : f′ ≡ v .state .frames
+  frames-is = g ∙ sym (v .frames-are)
+
+  raised-is : raised (v .state .frames) (tally l u h k) ≡ tally l u h′ k
+  raised-is = ap (λ (n : ℕ). raised n (tally l u h k)) (sym frames-is) ∙ r .raises l u
+
+  inside : ItemsAhead (next x) s (v .rest) (kindAt (getD s i 0)) (v .state) (v .room) (v .inner) (v .end) (i + 1) (tally l u h′ k)
+  inside =
+      subst (λ (t : Tally). ItemsAhead (next x) s (v .rest) (kindAt (getD s i 0)) (v .state) (v .room) (v .inner) (v .end) (i + 1) t)
+      raised-is (v .ahead)
+
+  counted : k ≡ 0 → v .state .frames ≤ h′
+  counted e =
+      subst (λ (t : Tally). t .stop ≡ 0 → v .state .frames ≤ t .peak) raised-is (raised-counted (v .state .frames) (tally l u h k)) e
+
+  -- no node below it changes the tally
+  unchanged : (m′ ≡ 0) ⊎ (k ≡ 0 → ⊥) → v .inner ≡ tally l u h′ k
+  unchanged (inl e) =
+      sym (inside .runs) ∙ items-dead x (inside .is) (v .state) (i + 1) (tally l u h′ k) (v .marks-are ∙ e) counted
+  unchanged (inr e) = go k refl
+    where
+      go : (n : ℕ) → k ≡ n → v .inner ≡ tally l u h′ k
+      go zero y = absurd (e y)
+      go (suc n) y = sym (inside .runs) ∙ tallied-stopped (tally l u h′ k) (itemsVisits (next x) (inside .is) (v .state) (i + 1)) n y
+
+  -- it is passed without a look inside
+  pub skipped-due : {e : ℕ} {b : Bool} → Skipped m′ k b → b ≡ true → Leaves s (i + 1) e → Passed x s whole z e (finish w e (tally l u h′ k)) d f m
+  skipped-due {e} y c q =
+      let a : e ≡ v .end = q .exact _ (inside .is) (v .rest) (inside .here) ∙ sym (inside .ends) in
+      passed-as a (ap₂ (λ (n : ℕ) (t : Tally). finish w n t) a (sym (unchanged (y .dead c)))) (v .after)
+
+  module _ {c : ℕ} (blanks : EndsBlanks s (i + 1) c) where
+    -- something follows the opening bracket
+    pub more-bytes : c < length s
+    more-bytes = items-inside (next x) s (v .rest) (kindAt (getD s i 0)) (v .state) (v .room) (v .inner) (v .end) (i + 1) c (tally l u h′ k) inside blanks
+
+    -- it has no items
+    pub empty-due : classOf (getD s c 0) ≡ 2 → Passed x s whole z (c + 1) (finish w (c + 1) (tally l u h′ k)) d f m
+    empty-due e =
+        let y = no-items (next x) s (v .rest) (kindAt (getD s i 0)) (v .state) (v .room) (v .inner) (v .end) (i + 1) c (tally l u h′ k) inside blanks e in
+        passed-as (sym (y .1)) (ap₂ (λ (n : ℕ) (t : Tally). finish w n t) (sym (y .1)) (y .0)) (v .after)
+
+    -- it is entered
+    pub items-due : (classOf (getD s c 0) ≡ 2 → ⊥) → ItemDue x s whole (kept z f d m w (getD s i 0)) (i + 1) (tally l u h′ k) (d + 1) f′ m′
+    items-due e =
+        let o : Open =
+        record {
+          bracket = getD s i 0;
+          state = v .state;
+          wait = w;
+          rest = v .rest;
+          room = v .room;
+          inner = v .inner;
+          end = v .end;
+          depth = d;
+          frames = f;
+          marks = m;
+        } in
+        record {
+          o = o;
+          level = level-new z o f′ m′ (passed-sized (v .after)) (passed-few (v .after)) (v .fits) frames-is (sym (v .marks-are)) g;
+          ahead = first-item (next x) s (v .rest) (kindAt (getD s i 0)) (v .state) (v .room) (v .inner) (v .end) (i + 1) c (tally l u h′ k) inside blanks e;
+          after = passed-kept f d m w (getD s i 0) (omega arith) (omega arith) (v .after);
+        }

@@ -1,0 +1,37 @@
+-- The root is the value ahead before any container is open; else the item's name and its container's marks give the value's. Assumes nothing.
+use mathlib.Core.Path.{refl}
+use native.Mathlib.Omega.{arith}
+use Rattle.jumping.proofs.Items.{item-due}
+use Rattle.jumping.proofs.Root.{root-comes}
+use borrow.Author.Needs.{needs}
+use Rattle.jumping.proofs.coming.Statement.{statement}
+use Rattle.jumping.proofs.coming.Tie as tie
+
+returns : tie.Need-returns
+returns c = record { onward = omega arith; within = c .before .before .before .before .before .pre .1 .0; due = λ x h whole levels held waits list y. root-comes h y (c .before .before .before .before .before .pre .1 .1 .0) (c .before .if1 .taken) }
+
+sub-top : tie.Need-sub-top
+sub-top c = search needs
+
+element-copy-out-object : tie.Need-element-copy-out-object
+element-copy-out-object c = search needs
+
+enter-item-requires : tie.Need-enter-item-requires
+enter-item-requires c κs = search needs
+
+advance-requires : tie.Need-advance-requires
+advance-requires c κs = (c .before .before .before .before .before .before .before .pre .0, (c .enter-item .ensures .name-order, c .enter-item .ensures .name-within))
+
+returns-2 : tie.Need-returns-2
+returns-2 c = record { onward = c .before .enter-item .ensures .onward; within = c .before .enter-item .ensures .within; due = λ x h whole levels held waits list y. item-due h (y .item (c .before .before .before .before .before .before .before .before .pre .1 .1 .0) (c .before .before .before .before .if1 .left)) refl (c .before .enter-item .ensures) (c .advance .ensures) }
+
+pub coming-spec : {M : Type 1} → statement M
+coming-spec =
+    tie.close
+    (tie.spec
+    returns
+    sub-top
+    element-copy-out-object
+    enter-item-requires
+    advance-requires
+    returns-2)

@@ -1,0 +1,198 @@
+// The jumping walk: one loop over an explicit pile of frames, which goes straight to the end of a dead container.
+use encoding::classes;
+use marks::advance;
+use pile::Coming;
+use pile::MAX_DEPTH;
+use pile::Standing;
+use pile::pop_frame;
+use query::Compiled;
+use scan::enter_item;
+use scan::skip_blanks;
+use value::lost;
+use value::pass;
+use value::value;
+ghost use mathlib.Core.Path.{_≡_};
+ghost use mathlib.Core.Bool.{true, false};
+ghost use Prim.Native.Nat.{_≤_};
+ghost use lib.ListN.{length};
+ghost use Rattle.encoding.specs.ClassTable.{ClassTable};
+ghost use Rattle.json.specs.Verdict.{maxBytes, maxDepth};
+ghost use Rattle.marks.specs.Advances.{Fits};
+ghost use Rattle.walk.specs.Walks.{Walks};
+ghost use Rattle.jumping.specs.Pile.{pile};
+ghost use Rattle.jumping.specs.Turns.{RootMarks, Starts, Comes, GoesOn, Turns};
+
+mod pile;
+mod value;
+
+// The opening bracket of an object, and the byte between two items.
+const OBJECT: u8 = b'{';
+
+const COMMA: u8 = b',';
+
+// What the walk counted: the pairs used, the most frames on the pile at once, and one more than the first byte of the first node left over,
+// or 0.
+pub struct Walked {
+    pub used: usize,
+    pub peak: usize,
+    pub stop: usize,
+}
+
+// The marks of the root: mark 0, where there is a step.
+fn root_marks(count: usize) -> u16
+    ensures { λ r. ⌜ RootMarks count r ⌝ }
+{
+    if count == 0 {
+        return 0;
+    }
+    1
+}
+
+// Before the root of the record, for a query of `count` steps.
+fn start(record: &[u8], count: usize) -> Standing
+    ensures { λ r. ⌜ Starts (now («record» .entry)) count r ⌝ }
+{
+    let at = skip_blanks(record, 0);
+    let marks = root_marks(count);
+    Standing {
+        at,
+        item: true,
+        depth: 0,
+        frames: 0,
+        marks,
+        used: 0,
+        peak: 0,
+        stop: 0,
+    }
+}
+
+// The value ahead: the root, or that of the next item of the innermost container, with the marks that its label leads to.
+fn coming(
+    query: &[u8],
+    steps: Compiled,
+    record: &[u8],
+    a: Standing,
+    brackets: &[u8; MAX_DEPTH],
+) -> Coming
+    requires { ⌜ Fits (now query) steps ⌝ }
+    requires { ⌜ a .at ≤ length (now «record») ⌝ }
+    requires { ⌜ (a .item ≡ true) × (a .depth ≤ maxDepth) ⌝ }
+    ensures { λ r. ⌜ Comes (now (query .entry)) steps (now («record» .entry)) (now (brackets .entry)) a r ⌝ }
+{
+    let at = a.at;
+    let marks = a.marks;
+    if a.depth == 0 {
+        return Coming {
+            at,
+            marks,
+            picked: steps.count == 0,
+        };
+    }
+    let top = a.depth - 1;
+    let object = brackets[top] == OBJECT;
+    let item = enter_item(record, at, object);
+    let from = item.from;
+    let to = item.to;
+    let child = advance(query, steps, marks, record, from, to, object);
+    Coming {
+        at: item.value,
+        marks: child.marks,
+        picked: child.picked,
+    }
+}
+
+// Goes on after a value: past a comma to the next item, or past the closing bracket of the innermost container, which is left.
+fn past(
+    record: &[u8],
+    a: Standing,
+    list: &mut [u32],
+    levels: &[u16; MAX_DEPTH],
+    held: &[u16; MAX_DEPTH],
+    waits: &[usize; MAX_DEPTH],
+) -> Standing
+    requires { ⌜ (length (now «record») ≤ maxBytes) × (a .at ≤ length (now «record»)) ⌝ }
+    requires { ⌜ (a .depth ≤ maxDepth) × (a .frames ≤ maxDepth) × (a .depth ≡ 0 → ⊥) ⌝ }
+    ensures { λ r. ⌜ GoesOn (now («record» .entry)) (now (levels .entry)) (now (held .entry)) (now (waits .entry)) (now (list .entry)) (now (list .exit)) a r ⌝ }
+{
+    let at = a.at;
+    let next = skip_blanks(record, at);
+    if next >= record.len() {
+        return lost(a, at);
+    }
+    let mut b = a;
+    if record[next] == COMMA {
+        b.at = next + 1;
+        b.item = true;
+        return b;
+    }
+    let top = a.depth - 1;
+    let around = pop_frame(levels, held, a.frames, top, a.marks);
+    b.depth = top;
+    b.frames = around.frames;
+    b.marks = around.marks;
+    let wait = waits[top];
+    pass(list, wait, next + 1, b)
+}
+
+// One step: past the value ahead or into it, or on from a value that has been passed.
+fn turn(
+    classes: &[u8; 256],
+    query: &[u8],
+    steps: Compiled,
+    record: &[u8],
+    a: Standing,
+    list: &mut [u32],
+    levels: &mut [u16; MAX_DEPTH],
+    held: &mut [u16; MAX_DEPTH],
+    waits: &mut [usize; MAX_DEPTH],
+    brackets: &mut [u8; MAX_DEPTH],
+) -> Standing
+    requires { ⌜ ClassTable (now classes) ⌝ }
+    requires { ⌜ Fits (now query) steps ⌝ }
+    requires { ⌜ (length (now «record») ≤ maxBytes) × (a .at ≤ length (now «record»)) ⌝ }
+    requires { ⌜ (a .depth ≤ maxDepth) × (a .frames ≤ maxDepth) × (a .item ≡ false → a .depth ≡ 0 → ⊥) ⌝ }
+    ensures { λ r. ⌜ Turns (now (query .entry)) steps (now («record» .entry)) (pile (now (levels .entry)) (now (held .entry)) (now (waits .entry)) (now (brackets .entry))) (pile (now (levels .exit)) (now (held .exit)) (now (waits .exit)) (now (brackets .exit))) (now (list .entry)) (now (list .exit)) a r ⌝ }
+{
+    if !a.item {
+        return past(record, a, list, levels, held, waits);
+    }
+    let v = coming(query, steps, record, a, brackets);
+    value(classes, record, v, a, list, levels, held, waits, brackets)
+}
+
+// Lists the nodes of a checked record that a query picks out, and counts frames, by the jumping walk: what the list holds and the counts
+// are the tally of all nodes. Where the list has too few pairs it holds the first nodes, and the walk says where the first one left over is.
+pub fn walk_jumping(query: &[u8], steps: Compiled, record: &[u8], list: &mut [u32]) -> Walked
+    requires { ⌜ Fits (now query) steps ⌝ }
+    requires { ⌜ length (now «record») ≤ maxBytes ⌝ }
+    ensures { λ r. ⌜ Walks (now (query .entry)) steps (now («record» .entry)) (now (list .entry)) (now (list .exit)) (r .used) (r .peak) (r .stop) ⌝ }
+{
+    let classes = classes();
+    let mut levels: [u16; MAX_DEPTH] = [0; MAX_DEPTH];
+    let mut held: [u16; MAX_DEPTH] = [0; MAX_DEPTH];
+    let mut waits: [usize; MAX_DEPTH] = [0; MAX_DEPTH];
+    let mut brackets: [u8; MAX_DEPTH] = [0; MAX_DEPTH];
+    let mut a = start(record, steps.count);
+    loop {
+        a = turn(
+            &classes,
+            query,
+            steps,
+            record,
+            a,
+            list,
+            &mut levels,
+            &mut held,
+            &mut waits,
+            &mut brackets,
+        );
+        let depth = a.depth;
+        if depth == 0 {
+            return Walked {
+                used: a.used,
+                peak: a.peak,
+                stop: a.stop,
+            };
+        }
+    }
+}

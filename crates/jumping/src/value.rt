@@ -1,0 +1,190 @@
+// A value that is ahead: passed at once, or, where it is a container with items that is not dead, entered.
+use super::pile::Coming;
+use super::pile::MAX_DEPTH;
+use super::pile::Standing;
+use super::pile::push_frame;
+use encoding::class;
+use leap::leave;
+use marks::framed;
+use pairs::begin;
+use pairs::finish;
+use pairs::raise;
+use scan::scalar_end;
+use scan::skip_blanks;
+ghost use Prim.Native.Nat.{_≤_, _<_};
+ghost use lib.ListN.{length};
+ghost use Rattle.encoding.specs.ClassTable.{ClassTable};
+ghost use Rattle.json.specs.Verdict.{maxBytes, maxDepth};
+ghost use Rattle.jumping.specs.Pile.{pile};
+ghost use Rattle.jumping.specs.Turns.{Lost, PassedTo, EnteredAt, Skipped, PassesValue, PassesContainer};
+
+// The classes of brackets.
+const OPENING: u8 = 1;
+
+const CLOSING: u8 = 2;
+
+// The end of the walk at bytes that no tree explains.
+pub fn lost(a: Standing, at: usize) -> Standing
+    requires { ⌜ at ≤ maxBytes ⌝ }
+    ensures { λ r. ⌜ Lost at a r ⌝ }
+{
+    let mut r = a;
+    r.at = at + 1;
+    r.item = false;
+    r.depth = 0;
+    r
+}
+
+// Past a value that ends at `end`, which goes into the pair that waits for it.
+pub fn pass(list: &mut [u32], wait: usize, end: usize, a: Standing) -> Standing
+    requires { ⌜ end ≤ maxBytes ⌝ }
+    ensures { λ r. ⌜ PassedTo (now (list .entry)) (now (list .exit)) wait end a r ⌝ }
+{
+    finish(list, wait, end);
+    let mut r = a;
+    r.at = end;
+    r.item = false;
+    r
+}
+
+// Whether a container with these marks is passed without a look inside: it has none, or the list was full.
+fn is_dead(marks: u16, stop: usize) -> bool
+    ensures { λ r. ⌜ Skipped marks stop r ⌝ }
+{
+    if marks == 0 {
+        return true;
+    }
+    if stop != 0 {
+        return true;
+    }
+    false
+}
+
+// Enters a container whose opening bracket stands just before `at`, and keeps for it what is needed when it is left.
+fn enter(
+    bracket: u8,
+    at: usize,
+    wait: usize,
+    frames: usize,
+    marks: u16,
+    a: Standing,
+    levels: &mut [u16; MAX_DEPTH],
+    held: &mut [u16; MAX_DEPTH],
+    waits: &mut [usize; MAX_DEPTH],
+    brackets: &mut [u8; MAX_DEPTH],
+) -> Standing
+    requires { ⌜ (a .frames < maxDepth) × (a .depth < maxDepth) ⌝ }
+    ensures { λ r. ⌜ EnteredAt (pile (now (levels .entry)) (now (held .entry)) (now (waits .entry)) (now (brackets .entry))) (pile (now (levels .exit)) (now (held .exit)) (now (waits .exit)) (now (brackets .exit))) bracket at wait frames marks a r ⌝ }
+{
+    let depth = a.depth;
+    push_frame(levels, held, a.frames, depth, a.marks);
+    waits[depth] = wait;
+    brackets[depth] = bracket;
+    let mut r = a;
+    r.at = at;
+    r.item = true;
+    r.depth = depth + 1;
+    r.frames = frames;
+    r.marks = marks;
+    r
+}
+
+// Passes the container ahead, whose pair is begun, or enters it where it has items and is not dead. Its frame counts in either case.
+fn container(
+    classes: &[u8; 256],
+    record: &[u8],
+    v: Coming,
+    wait: usize,
+    a: Standing,
+    list: &mut [u32],
+    levels: &mut [u16; MAX_DEPTH],
+    held: &mut [u16; MAX_DEPTH],
+    waits: &mut [usize; MAX_DEPTH],
+    brackets: &mut [u8; MAX_DEPTH],
+) -> Standing
+    requires { ⌜ ClassTable (now classes) ⌝ }
+    requires { ⌜ (length (now «record») ≤ maxBytes) × (v .at < length (now «record»)) ⌝ }
+    requires { ⌜ (a .depth ≤ maxDepth) × (a .frames ≤ maxDepth) ⌝ }
+    ensures { λ r. ⌜ PassesContainer (now («record» .entry)) (pile (now (levels .entry)) (now (held .entry)) (now (waits .entry)) (now (brackets .entry))) (pile (now (levels .exit)) (now (held .exit)) (now (waits .exit)) (now (brackets .exit))) (now (list .entry)) (now (list .exit)) v wait a r ⌝ }
+{
+    let at = v.at;
+    let marks = v.marks;
+    let around = a.frames;
+    if a.depth >= MAX_DEPTH {
+        return lost(a, at);
+    }
+    if around >= MAX_DEPTH {
+        return lost(a, at);
+    }
+    let frames = framed(a.marks, marks, around);
+    let mut b = a;
+    b.peak = raise(a.peak, frames, a.stop);
+    if is_dead(marks, a.stop) {
+        let end = leave(classes, record, at + 1);
+        return pass(list, wait, end, b);
+    }
+    let first = skip_blanks(record, at + 1);
+    if first >= record.len() {
+        return lost(a, at);
+    }
+    if class(classes, record[first]) == CLOSING {
+        return pass(list, wait, first + 1, b);
+    }
+    let bracket = record[at];
+    enter(
+        bracket,
+        at + 1,
+        wait,
+        frames,
+        marks,
+        b,
+        levels,
+        held,
+        waits,
+        brackets,
+    )
+}
+
+// Passes the value ahead, or enters it where it is a container that has items and is not dead.
+pub fn value(
+    classes: &[u8; 256],
+    record: &[u8],
+    v: Coming,
+    a: Standing,
+    list: &mut [u32],
+    levels: &mut [u16; MAX_DEPTH],
+    held: &mut [u16; MAX_DEPTH],
+    waits: &mut [usize; MAX_DEPTH],
+    brackets: &mut [u8; MAX_DEPTH],
+) -> Standing
+    requires { ⌜ ClassTable (now classes) ⌝ }
+    requires { ⌜ (length (now «record») ≤ maxBytes) × (v .at ≤ length (now «record»)) ⌝ }
+    requires { ⌜ (a .depth ≤ maxDepth) × (a .frames ≤ maxDepth) ⌝ }
+    ensures { λ r. ⌜ PassesValue (now («record» .entry)) (pile (now (levels .entry)) (now (held .entry)) (now (waits .entry)) (now (brackets .entry))) (pile (now (levels .exit)) (now (held .exit)) (now (waits .exit)) (now (brackets .exit))) (now (list .entry)) (now (list .exit)) v a r ⌝ }
+{
+    let at = v.at;
+    if at >= record.len() {
+        return lost(a, at);
+    }
+    let begun = begin(list, v.picked, a.used, a.stop, at);
+    let wait = begun.wait;
+    let mut b = a;
+    b.used = begun.used;
+    b.stop = begun.stop;
+    if class(classes, record[at]) != OPENING {
+        let end = scalar_end(classes, record, at);
+        return pass(list, wait, end, b);
+    }
+    container(
+        classes,
+        record,
+        v,
+        wait,
+        b,
+        list,
+        levels,
+        held,
+        waits,
+        brackets,
+    )
+}
