@@ -24,7 +24,7 @@ use Rattle.validate.specs.Checks.{Answers}
 use Rattle.validate.specs.declared.Checked.{Checked}
 use Rattle.walk.specs.Walks.{Walks}
 use Rattle.woodcrock.specs.Answers.{Listed, refusal, concluded}
-use Rattle.woodcrock.specs.declared.Answer.{Answer}
+use Rattle.woodcrock.specs.declared.answer.Answer.{Answer}
 
 pub concluded-left : (n k s : ℕ) → (s ≡ 0 → ⊥) → record { ground = 7; place = s - 1; pairs = n; peak = 0 } ≡ concluded n k s
 concluded-left n k zero h = absurd (h refl)

@@ -3,7 +3,7 @@ use mathlib.Core.Path.{_≡_}
 use mathlib.Core.List.{List}
 use Prim.Native.Nat.{ℕ, zero, suc}
 use Rattle.answers.specs.Lister.{Lists}
-use Rattle.woodcrock.specs.declared.Answer.{Answer}
+use Rattle.woodcrock.specs.declared.answer.Answer.{Answer}
 
 -- a lister's promise, of its answer
 abbrev pub Listed : (query «record» list after : List ℕ) → Answer → Type 0

@@ -2,8 +2,8 @@
 use native.Mathlib.Omega.{arith}
 use Rattle.woodcrock.proofs.Laws.{concluded-left, concluded-all}
 use borrow.Author.Needs.{needs}
-use Rattle.woodcrock.proofs.conclude.Statement.{statement}
-use Rattle.woodcrock.proofs.conclude.Tie as tie
+use Rattle.woodcrock.proofs.answer.conclude.Statement.{statement}
+use Rattle.woodcrock.proofs.answer.conclude.Tie as tie
 
 sub-t5 : tie.Need-sub-t5
 sub-t5 c = search needs

@@ -1,8 +1,8 @@
 -- Refused by the query, refused by the record, or the tally of all nodes, as the walk gives it. Assumes nothing.
 use Rattle.woodcrock.proofs.Laws.{query-place-small, listed-query, fits, record-place-small, listed-record, record-short, counts-small, listed}
 use borrow.Author.Needs.{needs}
-use Rattle.woodcrock.proofs.list_plain.Statement.{statement}
-use Rattle.woodcrock.proofs.list_plain.Tie as tie
+use Rattle.woodcrock.proofs.plain_lister.list_plain.Statement.{statement}
+use Rattle.woodcrock.proofs.plain_lister.list_plain.Tie as tie
 
 read-query-requires : tie.Need-read-query-requires
 read-query-requires c κs = search needs
