@@ -3,53 +3,55 @@
 mod common;
 
 use common::{listed, picks_out, refused};
-use oracle::{find_value, read_value, Answer, Value};
+use oracle::{class, find_value, read_value, Answer, Value};
+
+/// Queries outside the grammar, each with its dead byte.
+const DEAD_QUERIES: &[(&[u8], usize)] = &[
+    (b" $", 0),
+    (b"a", 0),
+    (b"\xEF\xBB\xBF$", 0),
+    (b"$ ", 2),
+    (b"$ \t\n\r", 5),
+    (b"$$", 1),
+    (b"$a", 1),
+    (b"$*", 1),
+    (b"$.", 2),
+    (b"$..", 3),
+    (b"$...a", 3),
+    (b"$. a", 2),
+    (b"$.. a", 3),
+    (b"$.['a']", 2),
+    (b"$.1", 2),
+    (b"$.a-b", 3),
+    (b"$.a'", 3),
+    (b"$.*a", 3),
+    (b"$.**", 3),
+    (b"$['a']b", 6),
+    (b"$.a .", 5),
+    (b"$.a\x0B.b", 3),
+    (b"$[", 2),
+    (b"$[ ", 3),
+    (b"$[]", 2),
+    (b"$[a]", 2),
+    (b"$['a'", 5),
+    (b"$['a' ", 6),
+    (b"$['a\"", 5),
+    (b"$['a'x", 5),
+    (b"$['a','b']", 5),
+    (b"$[*,*]", 3),
+    (b"$['a\\n']", 4),
+    (b"$['\x1F']", 3),
+    (b"$['\x80']", 3),
+    (b"$['\xC3']", 4),
+    (b"$.\xC3", 3),
+    (b"$.\xED\xA0\x80", 3),
+    (b"$.a\xC0\x80", 3),
+    (b"$[?@.a]", 2),
+];
 
 #[test]
 fn dead_bytes_of_queries() {
-    let rows: [(&[u8], usize); 40] = [
-        (b" $", 0),
-        (b"a", 0),
-        (b"\xEF\xBB\xBF$", 0),
-        (b"$ ", 2),
-        (b"$ \t\n\r", 5),
-        (b"$$", 1),
-        (b"$a", 1),
-        (b"$*", 1),
-        (b"$.", 2),
-        (b"$..", 3),
-        (b"$...a", 3),
-        (b"$. a", 2),
-        (b"$.. a", 3),
-        (b"$.['a']", 2),
-        (b"$.1", 2),
-        (b"$.a-b", 3),
-        (b"$.a'", 3),
-        (b"$.*a", 3),
-        (b"$.**", 3),
-        (b"$['a']b", 6),
-        (b"$.a .", 5),
-        (b"$.a\x0B.b", 3),
-        (b"$[", 2),
-        (b"$[ ", 3),
-        (b"$[]", 2),
-        (b"$[a]", 2),
-        (b"$['a'", 5),
-        (b"$['a' ", 6),
-        (b"$['a\"", 5),
-        (b"$['a'x", 5),
-        (b"$['a','b']", 5),
-        (b"$[*,*]", 3),
-        (b"$['a\\n']", 4),
-        (b"$['\x1F']", 3),
-        (b"$['\x80']", 3),
-        (b"$['\xC3']", 4),
-        (b"$.\xC3", 3),
-        (b"$.\xED\xA0\x80", 3),
-        (b"$.a\xC0\x80", 3),
-        (b"$[?@.a]", 2),
-    ];
-    for (query, place) in rows {
+    for &(query, place) in DEAD_QUERIES {
         refused(query, b"", 2, place);
         refused(query, b"7", 2, place);
     }
@@ -70,73 +72,75 @@ fn queries_of_the_grammar() {
     picks_out("$['\u{7F}']", "{\"\u{7F}\":1}", &[(5, 6)], 0);
 }
 
+/// Texts that are no JSON text, each with its dead byte.
+const DEAD_RECORDS: &[(&[u8], usize)] = &[
+    (b" \t\r\n", 4),
+    (b"\xEF\xBB\xBF7", 0),
+    (b"\x0B7", 0),
+    (b"x", 0),
+    (b"'a'", 0),
+    (b"+1", 0),
+    (b".5", 0),
+    (b"-", 1),
+    (b"-a", 1),
+    (b"-01", 2),
+    (b"00", 1),
+    (b"1.", 2),
+    (b"1.e5", 2),
+    (b"1.5.", 3),
+    (b"1e", 2),
+    (b"1e+", 3),
+    (b"1e+-", 3),
+    (b"1E5x", 3),
+    (b"1 2", 2),
+    (b"0x1", 1),
+    (b"tRue", 1),
+    (b"truee", 4),
+    (b"nul", 3),
+    (b"fals ", 4),
+    (b"True", 0),
+    (b"[", 1),
+    (b"[ ", 2),
+    (b"[,", 1),
+    (b"[1", 2),
+    (b"[1 2]", 3),
+    (b"[1,,2]", 3),
+    (b"[1}", 2),
+    (b"[]]", 2),
+    (b"]", 0),
+    (b"{", 1),
+    (b"{]", 1),
+    (b"{a:1}", 1),
+    (b"{1:1}", 1),
+    (b"{\"a\"", 4),
+    (b"{\"a\"}", 4),
+    (b"{\"a\" 1}", 5),
+    (b"{\"a\":}", 5),
+    (b"{\"a\":1", 6),
+    (b"{\"a\":1,}", 7),
+    (b"{\"a\":1]", 6),
+    (b"{\"a\":1 \"b\":2}", 7),
+    (b"\"", 1),
+    (b"\"a", 2),
+    (b"\"a\"b", 3),
+    (b"\"\n\"", 1),
+    (b"\"\x1F\"", 1),
+    (b"\"\\", 2),
+    (b"\"\\x\"", 2),
+    (b"\"\\u12\"", 5),
+    (b"\"\\uD80G\"", 6),
+    (b"\"\x80\"", 1),
+    (b"\"\xC1\x80\"", 1),
+    (b"\"\xE0\x9F\"", 2),
+    (b"\"\xED\xA0\"", 2),
+    (b"\"\xF0\x90\x80\"", 4),
+    (b"\"\xF4\x90\"", 2),
+    (b"\"\xF5\"", 1),
+];
+
 #[test]
 fn dead_bytes_of_records() {
-    let rows: [(&[u8], usize); 62] = [
-        (b" \t\r\n", 4),
-        (b"\xEF\xBB\xBF7", 0),
-        (b"\x0B7", 0),
-        (b"x", 0),
-        (b"'a'", 0),
-        (b"+1", 0),
-        (b".5", 0),
-        (b"-", 1),
-        (b"-a", 1),
-        (b"-01", 2),
-        (b"00", 1),
-        (b"1.", 2),
-        (b"1.e5", 2),
-        (b"1.5.", 3),
-        (b"1e", 2),
-        (b"1e+", 3),
-        (b"1e+-", 3),
-        (b"1E5x", 3),
-        (b"1 2", 2),
-        (b"0x1", 1),
-        (b"tRue", 1),
-        (b"truee", 4),
-        (b"nul", 3),
-        (b"fals ", 4),
-        (b"True", 0),
-        (b"[", 1),
-        (b"[ ", 2),
-        (b"[,", 1),
-        (b"[1", 2),
-        (b"[1 2]", 3),
-        (b"[1,,2]", 3),
-        (b"[1}", 2),
-        (b"[]]", 2),
-        (b"]", 0),
-        (b"{", 1),
-        (b"{]", 1),
-        (b"{a:1}", 1),
-        (b"{1:1}", 1),
-        (b"{\"a\"", 4),
-        (b"{\"a\"}", 4),
-        (b"{\"a\" 1}", 5),
-        (b"{\"a\":}", 5),
-        (b"{\"a\":1", 6),
-        (b"{\"a\":1,}", 7),
-        (b"{\"a\":1]", 6),
-        (b"{\"a\":1 \"b\":2}", 7),
-        (b"\"", 1),
-        (b"\"a", 2),
-        (b"\"a\"b", 3),
-        (b"\"\n\"", 1),
-        (b"\"\x1F\"", 1),
-        (b"\"\\", 2),
-        (b"\"\\x\"", 2),
-        (b"\"\\u12\"", 5),
-        (b"\"\\uD80G\"", 6),
-        (b"\"\x80\"", 1),
-        (b"\"\xC1\x80\"", 1),
-        (b"\"\xE0\x9F\"", 2),
-        (b"\"\xED\xA0\"", 2),
-        (b"\"\xF0\x90\x80\"", 4),
-        (b"\"\xF4\x90\"", 2),
-        (b"\"\xF5\"", 1),
-    ];
-    for (record, place) in rows {
+    for &(record, place) in DEAD_RECORDS {
         refused(b"$", record, 5, place);
         refused(b"$..a", record, 5, place);
         let refusal = Value { ground: 5, place, end: 0 };
@@ -243,5 +247,14 @@ fn any_bytes_end_without_a_fault() {
             listed(&bytes, &bytes, 3);
             listed(b"$", &bytes, 3);
         }
+    }
+}
+
+#[test]
+fn the_class_of_every_byte() {
+    let classes = ["[{", "]}", ":", ",", "\"", "\\", " \t\n\r"];
+    for byte in 0..=255 {
+        let listed = classes.iter().position(|bytes| bytes.as_bytes().contains(&byte));
+        assert_eq!(class(byte), listed.map_or(0, |index| index as u8 + 1));
     }
 }
