@@ -3,9 +3,17 @@
 use crate::Random;
 
 /// Names as they stand in queries and, between quotes, in records.
+#[rustfmt::skip]
 const NAMES: [&str; 16] = [
     "a", "b", "lot", "lots", "lo", "M", "_9", "é", "日本", "𝄞", "", "x y", "a'", "]", "{", "\u{7F}",
 ];
+
+/// Names that differ late or in length, around eight bytes.
+const LONG_NAMES: [&str; 6] =
+    ["abcdefgh", "abcdefgi", "abcdefg", "abcdefghi", "xbcdefgh", "abcdefghabcdefghabcdefgh"];
+
+/// A name of no query.
+const NO_QUERY_NAME: &str = "private notes";
 
 /// Names that only records can hold: with escapes.
 const ESCAPED_NAMES: [&str; 7] =
@@ -27,24 +35,32 @@ pub type Names = &'static [&'static str];
 
 /// Names for a query and a record that go together.
 pub fn names(random: &mut Random) -> Names {
-    &NAMES[..*random.one_of(&[1, 2, 2, 2, 3, 3, NAMES.len()])]
+    match random.below(8) {
+        0 => &NAMES[..1],
+        1..=3 => &NAMES[..2],
+        4 => &NAMES[..3],
+        5 => &NAMES[2..5],
+        6 => &LONG_NAMES,
+        _ => &NAMES,
+    }
 }
 
 const BLANKS: &[u8] = b" \t\n\r";
 
-/// Up to so many blanks, mostly none.
+/// Blanks: mostly none, now and then many.
 fn blanks(random: &mut Random, out: &mut Vec<u8>) {
-    if random.once_in(4) {
-        for _ in 0..random.between(1, 3) {
-            out.push(*random.one_of(BLANKS));
-        }
+    let most = *random.one_of(&[0, 0, 0, 0, 0, 0, 0, 0, 0, 0, 1, 1, 3, 3, 3, 30]);
+    for _ in 0..random.below(most + 1) {
+        out.push(*random.one_of(BLANKS));
     }
 }
 
-/// Changes a few bytes: one is replaced, left out, put in or doubled, or the rest is cut off.
+/// Changes a few bytes, often near the end: one is replaced, left out, put in or doubled, or the
+/// rest is cut off.
 pub fn damage(random: &mut Random, bytes: &mut Vec<u8>) {
     for _ in 0..random.between(1, 3) {
-        let at = random.below(bytes.len() + 1);
+        let reach = if random.once_in(2) { bytes.len() } else { bytes.len().min(20) };
+        let at = bytes.len() - random.below(reach + 1);
         let telling = *random.one_of(TELLING);
         match random.below(5) {
             0 => bytes.insert(at, telling),
@@ -231,7 +247,8 @@ impl Writer<'_> {
     }
 
     fn number(&mut self) {
-        let whole = *self.random.one_of(&["0", "-0", "7", "10", "-42", "9007199254740993"]);
+        let whole = ["0", "-0", "7", "10", "-42", "9007199254740993", "12345678901234567890"];
+        let whole = *self.random.one_of(&whole);
         let fraction = *self.random.one_of(&["", "", "", ".0", ".25", ".10"]);
         let exponent = *self.random.one_of(&["", "", "", "e5", "E+07", "e-0"]);
         self.put(format!("{whole}{fraction}{exponent}").as_bytes());
@@ -275,6 +292,29 @@ impl Writer<'_> {
         }
         self.value(TREE_LEVELS);
         self.put(b"]");
+    }
+
+    /// An object with a container of any length in which no query name finds anything, between
+    /// members that one may find.
+    fn unwanted_container(&mut self) {
+        self.put(b"{");
+        self.name_and_colon();
+        self.value(1);
+        let opening = if self.random.once_in(2) { "[" } else { "{\"a\":[" };
+        self.put(format!(",\"{NO_QUERY_NAME}\":{opening}").as_bytes());
+        let padding = self.random.below(140);
+        self.put(&vec![b' '; padding]);
+        for _ in 0..self.random.below(8) {
+            self.string();
+            self.put(b",");
+            self.values_left = 10;
+            self.value(3);
+            self.put(b",");
+        }
+        self.put(if opening == "[" { b"0]," } else { b"0]}," });
+        self.name_and_colon();
+        self.value(2);
+        self.put(b"}");
     }
 
     /// A chain whose length is between these.
@@ -327,7 +367,8 @@ pub fn record(random: &mut Random, names: Names) -> Vec<u8> {
         1 => writer.chain_of(508, 514),
         2..=4 => writer.chain_of(1, 60),
         5..=6 => writer.many_values(),
-        7..=14 => writer.value_at_edge(),
+        7..=10 => writer.value_at_edge(),
+        11..=14 => writer.unwanted_container(),
         15..=17 => writer.value(TREE_LEVELS),
         _ => writer.container(TREE_LEVELS),
     }

@@ -38,5 +38,5 @@ fn the_random_cases() {
         bytes.extend(cases::block(&mut random));
         bytes.extend(cases::list(&mut random, numbers % 5).iter().flat_map(|n| n.to_le_bytes()));
     }
-    assert_eq!((bytes.len(), fingerprint(&bytes)), (1_378_692, 5_865_450_707_813_131_533));
+    assert_eq!((bytes.len(), fingerprint(&bytes)), (1_670_157, 5_736_139_658_427_435_612));
 }
