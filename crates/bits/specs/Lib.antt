@@ -1,1 +1,4 @@
 pub mod Bits
+pub mod Truth
+pub mod Laws
+pub mod Word

@@ -1,1 +1,5 @@
 pub mod Words
+pub mod Laws
+pub mod Examples
+pub mod Sorted
+pub mod Parts

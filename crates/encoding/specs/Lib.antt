@@ -1,5 +1,16 @@
+pub mod Ascii
 pub mod Bytes
+pub mod BytesLaws
 pub mod Class
+pub mod ClassLaws
+pub mod ClassTable
+pub mod CodePoint
+pub mod CodePointLaws
+pub mod Examples
 pub mod Prefix
+pub mod PrefixLaws
+pub mod RowTable
 pub mod Utf8
+pub mod Utf8At
+pub mod Utf8Steps
 pub mod Verdict

@@ -1,1 +1,122 @@
-// Bytes and UTF-8: definitions only, in specs/.
+// The class of a byte, and code points by the rows of UTF-8.
+ghost use mathlib.Core.Path.{_≡_};
+ghost use Prim.Native.Nat.{_≤_};
+ghost use lib.ListN.{length};
+ghost use Rattle.encoding.specs.Class.{classOf};
+ghost use Rattle.encoding.specs.ClassTable.{ClassTable};
+ghost use Rattle.encoding.specs.CodePoint.{due, reading, Scanned};
+ghost use Rattle.encoding.specs.RowTable.{RowTable, RowOf};
+
+mod tables;
+
+// How many rows there are, how many numbers a row has, and the places of these in a row.
+const ROW_COUNT: usize = 9;
+
+const ROW_SIZE: usize = 5;
+
+const LOW: usize = 0;
+
+const HIGH: usize = 1;
+
+const SECOND_LOW: usize = 2;
+
+const SECOND_HIGH: usize = 3;
+
+const BYTES: usize = 4;
+
+// The bounds of the bytes after the second.
+const TAIL_LOW: u8 = 0x80;
+
+const TAIL_HIGH: u8 = 0xBF;
+
+// The table of classes, to be fetched once and lent down.
+pub fn classes() -> [u8; 256]
+    ensures { λ r. ⌜ ClassTable r ⌝ }
+{
+    tables::CLASSES
+}
+
+// The class of `b`, from the table of classes.
+pub fn class(table: &[u8; 256], b: u8) -> u8
+    requires { ⌜ ClassTable (now table) ⌝ }
+    ensures { λ r. ⌜ r ≡ classOf b ⌝ }
+{
+    table[b as usize]
+}
+
+// The table of the rows of UTF-8, to be fetched once and lent down.
+pub fn rows() -> [u8; 45]
+    ensures { λ r. ⌜ RowTable r ⌝ }
+{
+    tables::ROWS
+}
+
+// What a reader of bytes found: ok, and the place after what it read; or not ok, and the place of the first byte that is wrong, which is
+// the length where the bytes end too soon.
+pub struct Scan {
+    pub ok: bool,
+    pub at: usize,
+}
+
+// The number of the row, after the first, that has `b` as a first byte; the number of rows where none has.
+fn row_of(rows: &[u8; 45], b: u8) -> usize
+    requires { ⌜ RowTable (now rows) ⌝ }
+    ensures { λ r. ⌜ RowOf b r ⌝ }
+{
+    let mut r: usize = 1;
+    while r < ROW_COUNT {
+        let row = r;
+        r += 1;
+        if rows[row * ROW_SIZE + LOW] <= b {
+            if b <= rows[row * ROW_SIZE + HIGH] {
+                return row;
+            }
+        }
+    }
+    r
+}
+
+// Reads `count` bytes from `from` on, the first of them from `low` to `high` and the others from 80 to BF.
+fn rest_of(s: &[u8], from: usize, low: u8, high: u8, count: u8) -> Scan
+    requires { ⌜ from ≤ length (now s) ⌝ }
+    ensures { λ r. ⌜ Scanned (due low high count) (now (s .entry)) from (r .ok) (r .at) ⌝ }
+{
+    let mut i = from;
+    let mut lo = low;
+    let mut hi = high;
+    let mut left = count;
+    while left > 0 {
+        if i >= s.len() {
+            return Scan { ok: false, at: i };
+        }
+        if s[i] < lo {
+            return Scan { ok: false, at: i };
+        }
+        if s[i] > hi {
+            return Scan { ok: false, at: i };
+        }
+        i += 1;
+        left -= 1;
+        lo = TAIL_LOW;
+        hi = TAIL_HIGH;
+    }
+    Scan { ok: true, at: i }
+}
+
+// Reads one code point from 80 (hexadecimal) on at `at`, by the rows of UTF-8. Any byte may stand there.
+pub fn code_point(rows: &[u8; 45], s: &[u8], at: usize) -> Scan
+    requires { ⌜ RowTable (now rows) ⌝ }
+    ensures { λ r. ⌜ Scanned reading (now (s .entry)) at (r .ok) (r .at) ⌝ }
+{
+    if at >= s.len() {
+        return Scan { ok: false, at };
+    }
+    let row = row_of(rows, s[at]);
+    if row == ROW_COUNT {
+        return Scan { ok: false, at };
+    }
+    let low = rows[row * ROW_SIZE + SECOND_LOW];
+    let high = rows[row * ROW_SIZE + SECOND_HIGH];
+    let bytes = rows[row * ROW_SIZE + BYTES];
+    rest_of(s, at + 1, low, high, bytes - 1)
+}

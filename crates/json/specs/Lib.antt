@@ -1,1 +1,15 @@
+pub mod Append
+pub mod Check
+pub mod Complete
+pub mod Examples
 pub mod Grammar
+pub mod Led
+pub mod Machine
+pub mod Place
+pub mod Read
+pub mod Room
+pub mod Sound
+pub mod Steps
+pub mod TreeExamples
+pub mod TreeOf
+pub mod Verdict

@@ -1,2 +1,13 @@
+pub mod Append
+pub mod Examples
 pub mod Grammar
+pub mod Machine
+pub mod Place
+pub mod Read
+pub mod Rows
+pub mod Says
+pub mod Sound
+pub mod Spell
 pub mod Steps
+pub mod Text
+pub mod Verdict

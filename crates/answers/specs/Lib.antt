@@ -1,0 +1,3 @@
+pub mod Lister
+pub mod Finder
+pub mod Table

@@ -1,0 +1,68 @@
+-- The starred rows of document 01, "Sample records": every number of each outcome, by computing the definitions that the listers' promise cites.
+use mathlib.Core.Path.{_≡_, refl}
+use mathlib.Core.List.{List, [], _∷_, map}
+use Prim.Native.Nat.{ℕ}
+use Rattle.encoding.specs.Ascii.{ascii}
+use Rattle.answers.specs.Lister.{ground, place, pairs, peakAnswer, listAfter}
+
+-- the four numbers of an answer, and the list afterwards
+pub record Outcome : Type 0 where
+  pub ground : ℕ
+  pub place : ℕ
+  pub pairs : ℕ
+  pub peak : ℕ
+  pub after : List ℕ
+
+unfoldable pub outcome : (query text list : List ℕ) → Outcome
+unfolding ground place pairs peakAnswer listAfter
+outcome q t l = record { ground = ground q t l; place = place q t l; pairs = pairs q t l; peak = peakAnswer q t l; after = listAfter q t l }
+
+abbrev pub taken : (pairs peak : ℕ) → (after : List ℕ) → Outcome
+taken n k a = record { ground = 0; place = 0; pairs = n; peak = k; after = a }
+
+abbrev pub refused : (ground place pairs : ℕ) → (after : List ℕ) → Outcome
+refused g p n a = record { ground = g; place = p; pairs = n; peak = 0; after = a }
+
+-- a query, a record, a list that held other numbers before, and the outcome
+pub record Row : Type 0 where
+  pub query : List ℕ
+  pub text : List ℕ
+  pub list : List ℕ
+  pub outcome : Outcome
+
+abbrev pub row : (query text list : List ℕ) → Outcome → Row
+row q t l o = record { query = q; text = t; list = l; outcome = o }
+
+abbrev pub old : List ℕ
+old = 91 ∷ 92 ∷ 93 ∷ 94 ∷ 95 ∷ 96 ∷ 97 ∷ []
+
+-- the rows with a record of their own
+abbrev pub table : List Row
+table =
+    row (ascii "$") (ascii "7") old (taken 1 0 (0 ∷ 1 ∷ 93 ∷ 94 ∷ 95 ∷ 96 ∷ 97 ∷ [])) ∷
+    row (ascii "$.M") (ascii "{\"M\":1,\"M\":2}") old (taken 2 0 (5 ∷ 6 ∷ 11 ∷ 12 ∷ 95 ∷ 96 ∷ 97 ∷ [])) ∷
+    row (ascii "$..a..b") (ascii "{\"a\":{\"a\":{\"b\":1}}}") old (taken 1 1 (15 ∷ 16 ∷ 93 ∷ 94 ∷ 95 ∷ 96 ∷ 97 ∷ [])) ∷
+    row (ascii "$..*") (ascii "[3,[4]]") old (taken 3 0 (1 ∷ 2 ∷ 3 ∷ 6 ∷ 4 ∷ 5 ∷ 97 ∷ [])) ∷
+    row (ascii "$.*") (ascii "[3,[4]]") (91 ∷ 92 ∷ 93 ∷ []) (refused 7 3 1 (1 ∷ 2 ∷ 93 ∷ [])) ∷
+    row (ascii "$ ['a' ]") (ascii "{\"a\":[]}") old (taken 1 1 (5 ∷ 7 ∷ 93 ∷ 94 ∷ 95 ∷ 96 ∷ 97 ∷ [])) ∷
+    row (ascii "$.lot") (ascii "{\"x\":\"lot\\\":9}\"}") old (taken 0 0 old) ∷
+    row (ascii "$") (ascii "[1,]") old (refused 5 3 0 old) ∷
+    row (ascii "$") (ascii "01") old (refused 5 1 0 old) ∷
+    []
+
+pub table-holds : map (λ (r : Row). outcome (r .query) (r .text) (r .list)) table ≡ map (λ (r : Row). r .outcome) table
+unfolding outcome
+table-holds = refl
+
+-- the rows that hold for any record, and any list
+pub empty-query : (t l : List ℕ) → outcome [] t l ≡ refused 2 0 0 l
+unfolding outcome
+empty-query t l = refl
+
+pub blank-at-the-end : (t l : List ℕ) → outcome (ascii "$.a ") t l ≡ refused 2 4 0 l
+unfolding outcome
+blank-at-the-end t l = refl
+
+pub position : (t l : List ℕ) → outcome (ascii "$[0]") t l ≡ refused 2 2 0 l
+unfolding outcome
+position t l = refl

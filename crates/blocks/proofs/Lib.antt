@@ -1,0 +1,6 @@
+pub mod DeltaSwap
+pub mod Parity
+pub mod Escape
+pub mod Gather
+pub mod Fill
+pub mod Sort

@@ -1,0 +1,70 @@
+-- What the parts of the sorter promise, over the places of 64 bytes.
+use mathlib.Core.Path.{_≡_}
+use mathlib.Core.Bool.{Bool, false, not, xor, cond, _&&_, _||_}
+use mathlib.Core.List.{List}
+use Prim.Native.Nat.{ℕ, zero, suc, _+_, _-_, _<_, _≤_}
+use lib.Dec.{eqb, leb}
+use lib.ListN.{length}
+use Rattle.bits.specs.Bits.{bit}
+use Rattle.blocks.specs.Words.{byteAt, isBackslash, oddBefore, realQuote, inString, opensAt, closesAt}
+
+-- an odd run of places at which f holds stands just before place i, where `odd` says so of place 0
+unfoldable pub oddRun : (odd : Bool) → (ℕ → Bool) → ℕ → Bool
+oddRun odd f zero = odd
+oddRun odd f (suc i) = f i && not (oddRun odd f i)
+
+-- the places before i at which f holds are odd in number, where `inside` counts as one before place 0
+unfoldable pub parity : (inside : Bool) → (ℕ → Bool) → ℕ → Bool
+parity inside f zero = inside
+parity inside f (suc i) = xor (f i) (parity inside f i)
+
+-- where bit i comes from when the bits under the mask change places with those k places up
+unfoldable pub swapPlace : (k mask i : ℕ) → ℕ
+swapPlace k mask i = cond (bit i mask) (k + i) (cond (leb k i && bit (i - k) mask) (i - k) i)
+
+-- bit i is under the mask and k places above it
+unfoldable pub clash : (k mask i : ℕ) → Bool
+clash k mask i = bit i mask && (leb k i && bit (i - k) mask)
+
+pub record Swapped (k mask x r : ℕ) : Type 0 where
+  pub moved : (i : ℕ) → i < 64 → clash k mask i ≡ false → bit i r ≡ bit (swapPlace k mask i) x
+
+abbrev pub isQuote : List ℕ → ℕ → Bool
+isQuote s i = eqb (byteAt s i) 0x22
+
+abbrev pub isOpening : List ℕ → ℕ → Bool
+isOpening s i = eqb (byteAt s i) 0x5B || eqb (byteAt s i) 0x7B
+
+abbrev pub isClosing : List ℕ → ℕ → Bool
+isClosing s i = eqb (byteAt s i) 0x5D || eqb (byteAt s i) 0x7D
+
+-- the places of quotes, backslashes and brackets among the first 64 bytes of s
+pub record Classified (s : List ℕ) (quotes backslashes opening closing : ℕ) : Type 0 where
+  pub quote-at : (i : ℕ) → i < 64 → bit i quotes ≡ isQuote s i
+  pub backslash-at : (i : ℕ) → i < 64 → bit i backslashes ≡ isBackslash s i
+  pub opening-at : (i : ℕ) → i < 64 → bit i opening ≡ isOpening s i
+  pub closing-at : (i : ℕ) → i < 64 → bit i closing ≡ isClosing s i
+
+-- the words of the first 64 places of s, whatever its length
+pub record Whole (s : List ℕ) (inside odd : Bool) (quotes strings opening closing backslashes escaped : ℕ) : Type 0 where
+  pub quotes-at : (i : ℕ) → i < 64 → bit i quotes ≡ realQuote odd s i
+  pub strings-at : (i : ℕ) → i < 64 → bit i strings ≡ inString inside odd s i
+  pub opening-at : (i : ℕ) → i < 64 → bit i opening ≡ opensAt inside odd s i
+  pub closing-at : (i : ℕ) → i < 64 → bit i closing ≡ closesAt inside odd s i
+  pub backslashes-at : (i : ℕ) → i < 64 → bit i backslashes ≡ isBackslash s i
+  pub escaped-at : (i : ℕ) → i < 64 → bit i escaped ≡ oddBefore odd s i
+
+-- d has 64 bytes: those of s and zeros behind them, where s has fewer than 64
+pub record Padded (s d : List ℕ) : Type 0 where
+  pub long : length d ≡ 64
+  pub like : length s < 64 → (i : ℕ) → i < 64 → byteAt d i ≡ byteAt s i
+
+-- d has at least 64 bytes, and the first 64 are those of s with zeros behind
+pub record Block (s d : List ℕ) : Type 0 where
+  pub long : 64 ≤ length d
+  pub like : (i : ℕ) → i < 64 → byteAt d i ≡ byteAt s i
+
+-- an odd run of backslashes ends the block of at most n bytes
+pub record OddAtEnd (backslashes escaped n : ℕ) (r : Bool) : Type 0 where
+  pub short : n < 64 → r ≡ bit n escaped
+  pub full : 64 ≤ n → r ≡ (bit 63 backslashes && not (bit 63 escaped))

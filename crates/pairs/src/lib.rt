@@ -1,0 +1,74 @@
+// Pairs of the lent list, and the peak: what a walk writes and counts at a node.
+ghost use mathlib.Core.Path.{_≡_};
+ghost use Prim.Native.Nat.{_≤_};
+ghost use Rattle.automaton.specs.Halves.{endPair};
+ghost use Rattle.pairs.specs.Pairs.{Begins, Raises};
+
+// The pairs used, one more than the first byte of the first node left over or 0, and the pair that waits for its end plus one or 0.
+pub struct Begun {
+    pub used: usize,
+    pub stop: usize,
+    pub wait: usize,
+}
+
+// Takes the next pair for a node that is picked out and writes its first byte there. Where no pair is left the walk stops at this
+// node. Nothing changes for a node that is not picked out, and nothing after a stop.
+pub fn begin(list: &mut [u32], picked: bool, used: usize, stop: usize, at: usize) -> Begun
+    requires { ⌜ at ≤ 16777216 ⌝ }
+    ensures { λ r. ⌜ Begins picked (now (list .entry)) used stop at (now (list .exit)) (r .used) (r .stop) (r .wait) ⌝ }
+{
+    if stop != 0 {
+        return Begun {
+            used,
+            stop,
+            wait: 0,
+        };
+    }
+    if !picked {
+        return Begun {
+            used,
+            stop,
+            wait: 0,
+        };
+    }
+    if used >= list.len() / 2 {
+        return Begun {
+            used,
+            stop: at + 1,
+            wait: 0,
+        };
+    }
+    let first = used * 2;
+    list[first] = at as u32;
+    Begun {
+        used: used + 1,
+        stop,
+        wait: used + 1,
+    }
+}
+
+// Writes the end of a node into the pair that waits for it, if one does.
+pub fn finish(list: &mut [u32], wait: usize, end: usize)
+    requires { ⌜ end ≤ 16777216 ⌝ }
+    ensures { λ _. ⌜ now (list .exit) ≡ endPair wait end (now (list .entry)) ⌝ }
+{
+    if wait == 0 {
+        return;
+    }
+    let pair = wait - 1;
+    if pair >= list.len() / 2 {
+        return;
+    }
+    let second = pair * 2 + 1;
+    list[second] = end as u32;
+}
+
+// The most frames so far, where a container with these frames is met. Nothing changes after a stop.
+pub fn raise(peak: usize, frames: usize, stop: usize) -> usize
+    ensures { λ r. ⌜ Raises peak frames stop r ⌝ }
+{
+    if stop != 0 {
+        return peak;
+    }
+    if peak < frames { frames } else { peak }
+}

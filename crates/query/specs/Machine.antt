@@ -1,0 +1,162 @@
+-- The query grammar as a machine that takes one byte at a time: from each control state, the bytes that lead on, and where to.
+use mathlib.Core.List.{List, [], _∷_}
+use mathlib.Core.Bool.{Bool, true, false, _&&_}
+use Prim.Native.Nat.{ℕ, zero, suc}
+use lib.Dec.{leb}
+use Rattle.query.specs.Grammar.{Quote, single, double, quoteByte, beforeQuote, afterQuote, Depth, plain, deep}
+
+-- which name is being read: a shorthand one, or one in quotes
+pub data Home : Type 0 where
+  short : Home
+  quoted : Quote → Home
+
+-- what may follow the first byte of a code point from 80 (hexadecimal) on: any byte of 80-BF, or fewer after E0, ED, F0, F4
+pub data Second : Type 0 where
+  anyTail afterE0 afterED afterF0 afterF4 : Second
+
+abbrev pub secondLow : Second → ℕ
+secondLow anyTail = 0x80
+secondLow afterE0 = 0xA0
+secondLow afterED = 0x80
+secondLow afterF0 = 0x90
+secondLow afterF4 = 0x80
+
+abbrev pub secondHigh : Second → ℕ
+secondHigh anyTail = 0xBF
+secondHigh afterE0 = 0xBF
+secondHigh afterED = 0x9F
+secondHigh afterF0 = 0xBF
+secondHigh afterF4 = 0x8F
+
+pub data Control : Type 0 where
+  root : Control  -- `$` is due
+  done : Control  -- after `$`, or after a step that ends with its last byte
+  gap : Control  -- after blanks before a step
+  dotted : Depth → Control  -- after `.` or `..`
+  opened : Control  -- in brackets, before the name or `*`
+  closing : Control  -- in brackets, after it
+  inside : Home → Control  -- in a name
+  tailDue : Second → ℕ → Home → Control  -- in a code point of a name: its second byte is due, and then so many of 80-BF
+
+-- a state of the machine; dead: no query begins so
+pub data State : Type 0 where
+  dead : State
+  at : Control → State
+
+-- the bytes of a range, and where they lead
+pub record Row : Type 0 where
+  pub low : ℕ
+  pub high : ℕ
+  pub to : Control
+
+abbrev pub range : ℕ → ℕ → Control → Row
+range l h c = record { low = l; high = h; to = c }
+
+abbrev pub only : ℕ → Control → Row
+only b c = range b b c
+
+abbrev pub blankRows : Control → List Row → List Row
+blankRows c rs = only 0x20 c ∷ only 0x09 c ∷ only 0x0A c ∷ only 0x0D c ∷ rs
+
+-- the first byte of a code point, by the rows of document 01 after the first
+abbrev pub wideRows : Home → List Row → List Row
+wideRows h rs =
+    range 0xC2 0xDF (tailDue anyTail 0 h) ∷
+    range 0xE0 0xE0 (tailDue afterE0 1 h) ∷
+    range 0xE1 0xEC (tailDue anyTail 1 h) ∷
+    range 0xED 0xED (tailDue afterED 1 h) ∷
+    range 0xEE 0xEF (tailDue anyTail 1 h) ∷
+    range 0xF0 0xF0 (tailDue afterF0 2 h) ∷
+    range 0xF1 0xF3 (tailDue anyTail 2 h) ∷
+    range 0xF4 0xF4 (tailDue afterF4 2 h) ∷ rs
+
+-- name-first (RFC 9535 §2.5.1.1)
+abbrev pub letterRows : List Row → List Row
+letterRows rs = range 0x41 0x5A (inside short) ∷ range 0x61 0x7A (inside short) ∷ only 0x5F (inside short) ∷ rs
+
+abbrev pub firstRows : List Row → List Row
+firstRows rs = wideRows short (letterRows rs)
+
+-- what begins a step, and that with blanks before it
+abbrev pub stepRows : List Row
+stepRows = only 0x2E (dotted plain) ∷ only 0x5B opened ∷ []
+
+abbrev pub beginRows : List Row
+beginRows = blankRows gap stepRows
+
+-- what `.` and `..` may stand before, besides a shorthand name
+abbrev pub dotRow : Depth → Row
+dotRow plain = only 0x2E (dotted deep)
+dotRow deep = only 0x5B opened
+
+abbrev pub dotRows : Depth → List Row
+dotRows d = only 0x2A done ∷ dotRow d ∷ []
+
+-- `*` and the quotes that begin a name in brackets
+abbrev pub innerRows : List Row
+innerRows = only 0x2A closing ∷ only 0x27 (inside (quoted single)) ∷ only 0x22 (inside (quoted double)) ∷ []
+
+-- the bytes below 80 of a quoted name, and its closing quote
+abbrev pub charRows : Quote → List Row
+charRows q =
+    range 0x20 (beforeQuote q) (inside (quoted q)) ∷ range (afterQuote q) 0x5B (inside (quoted q)) ∷
+    range 0x5D 0x7F (inside (quoted q)) ∷ only (quoteByte q) closing ∷ []
+
+-- after a code point's second byte
+abbrev pub tailsDue : ℕ → Home → Control
+tailsDue zero h = inside h
+tailsDue (suc n) h = tailDue anyTail n h
+
+-- what each control state takes: the first row that has the byte
+abbrev pub rows : Control → List Row
+rows root = only 0x24 done ∷ []
+rows done = beginRows
+rows gap = beginRows
+rows (dotted d) = firstRows (dotRows d)
+rows opened = blankRows opened innerRows
+rows closing = blankRows closing (only 0x5D done ∷ [])
+rows (inside short) = firstRows (range 0x30 0x39 (inside short) ∷ beginRows)
+rows (inside (quoted q)) = wideRows (quoted q) (charRows q)
+rows (tailDue p n h) = range (secondLow p) (secondHigh p) (tailsDue n h) ∷ []
+
+abbrev pub takes : Row → ℕ → Bool
+takes r b = leb (r .low) b && leb b (r .high)
+
+unfoldable pub pick : List Row → ℕ → State
+pick [] b = dead
+pick (r ∷ rs) b = elim (takes r b) [ true ↦ at (r .to) | false ↦ pick rs b ]
+
+unfoldable pub step : State → ℕ → State
+unfolding pick
+step dead b = dead
+step (at c) b = pick (rows c) b
+
+unfoldable pub run : State → List ℕ → State
+unfolding step
+run st [] = st
+run st (b ∷ s) = run (step st b) s
+
+-- how many bytes the machine takes before it is dead
+unfoldable pub place : State → List ℕ → ℕ
+unfolding step
+place st [] = 0
+place st (b ∷ s) = elim (step st b) [ dead ↦ 0 | at c ↦ suc (place (at c) s) ]
+
+-- where a query may end
+abbrev pub final : Control → Bool
+final root = false
+final done = true
+final gap = false
+final (dotted d) = false
+final opened = false
+final closing = false
+final (inside short) = true
+final (inside (quoted q)) = false
+final (tailDue p n h) = false
+
+abbrev pub accept : State → Bool
+accept dead = false
+accept (at c) = final c
+
+abbrev pub start : State
+start = at root

@@ -1,0 +1,167 @@
+-- The machine's place is the dead byte's: it accepts every query's text, and every state but `dead` can be completed. Assumes nothing.
+use mathlib.Core.Path.{_≡_, refl, ap, sym, subst, _∙_}
+use mathlib.Core.List.{List, [], _∷_, _++_}
+use mathlib.Core.Bool.{Bool, true, false}
+use Prim.Native.Nat.{ℕ, zero, suc, _≤_, _<_, _+_}
+use native.Mathlib.Nat.{le-of-suc-le-suc}
+use native.Mathlib.Omega.{arith}
+use lib.Dec.{T}
+use lib.ListN.{length, take}
+use Rattle.encoding.specs.Prefix.{Alive, DeadPlace}
+use Rattle.query.specs.Grammar as G
+use Rattle.query.specs.Grammar.{Query, QueryText, text}
+use Rattle.query.specs.Machine as M
+use Rattle.query.specs.Machine.{Home, short, quoted, anyTail, afterE0, afterED, afterF0, afterF4, Control, root, done, gap, opened, closing, inside, tailDue, tailsDue, State, dead, at, step, run, place, final, accept, start}
+use Rattle.query.specs.Read.{Event, Ahead, named, Reading, good, bad, note, event, reading}
+use Rattle.query.specs.Text.{reads-text}
+use Rattle.query.specs.Sound.{sound}
+
+abbrev pub Accepts : State → List ℕ → Type 0
+Accepts st s = accept (run st s) ≡ true
+
+run-dead : (s : List ℕ) → run dead s ≡ dead
+unfolding run
+run-dead [] = refl
+run-dead (b ∷ s) = run-dead s
+
+-- what a reading says of the machine
+pub data Tells (c : Control) (n : ℕ) (s : List ℕ) : Reading → Type 0 where
+  well : (a : Ahead) → accept (run (at c) s) ≡ true → Tells c n s (good a)
+  ill : (p : ℕ) → accept (run (at c) s) ≡ false → p ≡ n + place (at c) s → Tells c n s (bad p)
+
+tells-note : (e : Event) (m b : ℕ) (c : Control) (n : ℕ) (s : List ℕ) (r : Reading) → Tells c n s r → Tells c n s (note e m b r)
+tells-note e m b c n s r (well a x) = well _ x
+tells-note e m b c n s r (ill p x y) = ill p x y
+
+tells-step : (c k : Control) (b : ℕ) → step (at c) b ≡ at k → (n : ℕ) (s : List ℕ) (r : Reading) → Tells k (suc n) s r → Tells c n (b ∷ s) r
+unfolding run place
+tells-step c k b z n s r (well a x) = well a (rw z x)
+tells-step c k b z n s r (ill p x y) = ill p (rw z x) (rw (z, place) (omega arith))
+
+pub tells : (c : Control) (n : ℕ) (s : List ℕ) → Tells c n s (reading c n s)
+unfolding reading run place
+tells c n [] = go (final c) refl
+  where
+    go : (x : Bool) → final c ≡ x → Tells c n [] (elim x [ true ↦ good (named [] []) | false ↦ bad n ])
+    go true e = well _ e
+    go false e = ill n e (omega arith)
+tells c n (b ∷ s) = go (step (at c) b) refl (λ k. tells k (suc n) s)
+  where
+    go : (m : State) → step (at c) b ≡ m → ((k : Control) → Tells k (suc n) s (reading k (suc n) s)) →
+        Tells c n (b ∷ s) (elim m [ dead ↦ bad n | at k ↦ note (event c k) n b (reading k (suc n) s) ])
+    go dead e again = ill n (rw e (ap accept (run-dead s))) (rw (e, place) (omega arith))
+    go (at k) e again = tells-step c k b e n s _ (tells-note (event c k) n b k (suc n) s _ (again k))
+
+-- every query's text is accepted
+of-good : (c : Control) (n : ℕ) (s : List ℕ) (r : Reading) (a : Ahead) → Tells c n s r → r ≡ good a → Accepts (at c) s
+of-good c n s r a (well x e) q = e
+of-good c n s r a (ill p e f) q = let z : _≡_ {A = ℕ} 0 1 = cc in absurd (omega arith)
+
+pub complete : (t : Query) → Accepts start (text t)
+complete t = of-good root 0 (text t) _ _ (tells root 0 (text t)) (reads-text t)
+
+-- every state but `dead` has bytes that complete it
+complete-name : (h : Home) → (w : List ℕ) × Accepts (at (inside h)) w
+unfolding run
+complete-name short = ([], refl)
+complete-name (quoted G.single) = (0x27 ∷ 0x5D ∷ [], refl)
+complete-name (quoted G.double) = (0x22 ∷ 0x5D ∷ [], refl)
+
+complete-tails : (n : ℕ) (h : Home) → (w : List ℕ) × Accepts (at (tailsDue n h)) w
+unfolding run
+complete-tails zero h = complete-name h
+complete-tails (suc n) h = let r = complete-tails n h in (0x80 ∷ r .0, r .1)
+
+pub viable : (c : Control) → (w : List ℕ) × Accepts (at c) w
+unfolding run
+viable root = (0x24 ∷ [], refl)
+viable done = ([], refl)
+viable gap = (0x2E ∷ 0x2A ∷ [], refl)
+viable (M.dotted d) = (0x2A ∷ [], refl)
+viable opened = (0x2A ∷ 0x5D ∷ [], refl)
+viable closing = (0x5D ∷ [], refl)
+viable (inside h) = complete-name h
+viable (tailDue anyTail n h) = let r = complete-tails n h in (0x80 ∷ r .0, r .1)
+viable (tailDue afterE0 n h) = let r = complete-tails n h in (0xA0 ∷ r .0, r .1)
+viable (tailDue afterED n h) = let r = complete-tails n h in (0x80 ∷ r .0, r .1)
+viable (tailDue afterF0 n h) = let r = complete-tails n h in (0x90 ∷ r .0, r .1)
+viable (tailDue afterF4 n h) = let r = complete-tails n h in (0x80 ∷ r .0, r .1)
+
+-- alive is not dead
+
+run-append : (st : State) (p u : List ℕ) → run st (p ++ u) ≡ run (run st p) u
+unfolding run
+run-append st [] u = refl
+run-append st (b ∷ p) u = run-append (step st b) p u
+
+pub accepts-text : (s : List ℕ) → QueryText s → Accepts start s
+accepts-text s x = rw (x .written) at (complete (x .tree))
+
+alive : (p : List ℕ) (c : Control) → run start p ≡ at c → Alive QueryText p
+unfolding Alive
+alive p c e = let w = viable c in (w .0, sound (p ++ w .0) (rw (run-append, e) (w .1)))
+
+not-alive : (p : List ℕ) → run start p ≡ dead → Alive QueryText p → ⊥
+unfolding Alive
+not-alive p e (u, x) = subst T (sym (rw (run-append, e, run-dead) at (accepts-text (p ++ u) x))) tt
+
+-- the machine lives on each byte before its place, and on none from there
+
+place-lives : (c : Control) (s : List ℕ) (i : ℕ) → i ≤ place (at c) s → (k : Control) × (run (at c) (take i s) ≡ at k)
+unfolding run place
+place-lives c s zero h = (c, refl)
+place-lives c [] (suc i) h = absurd (omega arith)
+place-lives c (b ∷ s) (suc i) h = go (step (at c) b) refl h (λ k g. place-lives k s i g)
+  where
+    go : (m : State) → step (at c) b ≡ m → suc i ≤ elim m [ dead ↦ 0 | at k ↦ suc (place (at k) s) ] →
+        ((k : Control) → i ≤ place (at k) s → (k′ : Control) × (run (at k) (take i s) ≡ at k′)) → (k′ : Control) × (run (at c) (take (suc i) (b ∷ s)) ≡ at k′)
+    go dead e g again = absurd (omega arith)
+    go (at k) e g again = let r = again k (le-of-suc-le-suc g) in (r .0, ap (λ (x : State). run x (take i s)) e ∙ r .1)
+
+place-dies : (c : Control) (s : List ℕ) → place (at c) s < length s → run (at c) (take (suc (place (at c) s)) s) ≡ dead
+unfolding run place
+place-dies c [] h = absurd (omega arith)
+place-dies c (b ∷ s) h = go (step (at c) b) refl h (λ k g. place-dies k s g)
+  where
+    go : (m : State) → step (at c) b ≡ m → elim m [ dead ↦ 0 | at k ↦ suc (place (at k) s) ] < suc (length s) →
+        ((k : Control) → place (at k) s < length s → run (at k) (take (suc (place (at k) s)) s) ≡ dead) →
+        run (at c) (take (suc (elim m [ dead ↦ 0 | at k ↦ suc (place (at k) s) ])) (b ∷ s)) ≡ dead
+    go dead e g again = rw e refl
+    go (at k) e g again = ap (λ (x : State). run x (take (suc (place (at k) s)) s)) e ∙ again k (le-of-suc-le-suc g)
+
+pub place-le : (c : Control) (s : List ℕ) → place (at c) s ≤ length s
+unfolding place
+place-le c [] = omega arith
+place-le c (b ∷ s) = go (step (at c) b) (λ k. place-le k s)
+  where
+    go : (m : State) → ((k : Control) → place (at k) s ≤ length s) → elim m [ dead ↦ 0 | at k ↦ suc (place (at k) s) ] ≤ suc (length s)
+    go dead again = omega arith
+    go (at k) again = omega (arith, again k)
+
+-- bytes after the dead one change nothing
+pub place-take : (c : Control) (n : ℕ) (s : List ℕ) → place (at c) (take n s) < n → place (at c) s ≡ place (at c) (take n s)
+unfolding place
+place-take c zero s h = absurd (omega arith)
+place-take c (suc n) [] h = refl
+place-take c (suc n) (b ∷ s) h = go (step (at c) b) h (λ k g. place-take k n s g)
+  where
+    go : (m : State) → elim m [ dead ↦ 0 | at k ↦ suc (place (at k) (take n s)) ] < suc n →
+        ((k : Control) → place (at k) (take n s) < n → place (at k) s ≡ place (at k) (take n s)) →
+        _≡_ {A = ℕ} (elim m [ dead ↦ 0 | at k ↦ suc (place (at k) s) ]) (elim m [ dead ↦ 0 | at k ↦ suc (place (at k) (take n s)) ])
+    go dead g again = refl
+    go (at k) g again = ap suc (again k (le-of-suc-le-suc g))
+
+-- the place of the dead byte (document 01, "Grounds for refusing"), for every byte string
+pub dead-place : (s : List ℕ) → DeadPlace QueryText s (place start s)
+dead-place s = record {
+  within = place-le root s;
+  before = λ i h. let r = place-lives root s (suc i) h in alive (take (suc i) s) (r .0) (r .1);
+  dead = λ h x. not-alive (take (suc (place start s)) s) (place-dies root s h) x;
+}
+
+-- a text has one place of a dead byte
+pub dead-place-only : {L : List ℕ → Type 0} {s : List ℕ} {p q : ℕ} → DeadPlace L s p → DeadPlace L s q → p ≡ q
+dead-place-only {L} {s} {p} {q} x y =
+    let f : ¬ (p < q) = λ h. x .dead (omega (arith, y .within)) (y .before p h) in
+    let g : ¬ (q < p) = λ h. y .dead (omega (arith, x .within)) (x .before q h) in
+    omega arith

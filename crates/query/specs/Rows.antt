@@ -1,0 +1,124 @@
+-- Laws of the machine's tables: where a table leads all bytes of a range, by computing; and what holds of every row. Assumes nothing.
+use mathlib.Core.Path.{_≡_, refl, _∙_}
+use mathlib.Core.List.{List, [], _∷_}
+use mathlib.Core.Bool.{Bool, true, false, _&&_, _||_}
+use mathlib.Core.Option.{Option, some, none}
+use Prim.Native.Nat.{ℕ, _≤_}
+use native.Mathlib.Omega.{arith}
+use lib.Dec.{T, leb, ltb, leb→le, le→leb, ltb→lt}
+use Rattle.encoding.specs.Bytes.{In}
+use Rattle.query.specs.Machine.{Control, State, dead, at, Row, rows, takes, pick, step}
+
+-- tests
+
+pub so : {b : Bool} → b ≡ true → T b
+so e = rw e tt
+
+pub of-T : (b : Bool) → T b → b ≡ true
+of-T true t = refl
+of-T false t = absurd t
+
+pub not-T : (b : Bool) → (T b → ⊥) → b ≡ false
+not-T true f = absurd (f tt)
+not-T false f = refl
+
+pub and-left : (a b : Bool) → T (a && b) → T a
+and-left true b t = tt
+and-left false b t = t
+
+pub and-right : (a b : Bool) → T (a && b) → T b
+and-right true b t = t
+and-right false b t = absurd t
+
+and-both : (a b : Bool) → T a → T b → a && b ≡ true
+and-both a b p q = rw (of-T a p, of-T b q)
+
+or-elim : (a b : Bool) {A : Type 0} → T (a || b) → (T a → A) → (T b → A) → A
+or-elim true b t f g = f t
+or-elim false b t f g = g t
+
+-- a byte between two numbers
+pub in-low : {lo hi : ℕ} (b : In lo hi) → lo ≤ b .byte
+in-low {lo} {hi} b = leb→le lo (b .byte) (and-left (leb lo (b .byte)) (leb (b .byte) hi) (b .ok))
+
+pub in-high : {lo hi : ℕ} (b : In lo hi) → b .byte ≤ hi
+in-high {lo} {hi} b = leb→le (b .byte) hi (and-right (leb lo (b .byte)) (leb (b .byte) hi) (b .ok))
+
+pub between : {lo hi b : ℕ} → lo ≤ b → b ≤ hi → leb lo b && leb b hi ≡ true
+between {lo} {hi} {b} l h = and-both (leb lo b) (leb b hi) (le→leb lo b l) (le→leb b hi h)
+
+pub taken-between : (r : Row) (b : ℕ) → T (takes r b) → (r .low ≤ b) × (b ≤ r .high)
+taken-between r b t =
+    (leb→le (r .low) b (and-left (leb (r .low) b) (leb b (r .high)) t), leb→le b (r .high) (and-right (leb (r .low) b) (leb b (r .high)) t))
+
+pub hit : (r : Row) (rs : List Row) (b : ℕ) → takes r b ≡ true → pick (r ∷ rs) b ≡ at (r .to)
+unfolding pick
+hit r rs b e = rw (e, pick)
+
+pub miss : (r : Row) (rs : List Row) (b : ℕ) → takes r b ≡ false → pick (r ∷ rs) b ≡ pick rs b
+unfolding pick
+miss r rs b e = rw (e, pick)
+
+-- a row has all bytes of the range, or none
+abbrev covers : Row → ℕ → ℕ → Bool
+covers r lo hi = leb (r .low) lo && leb hi (r .high)
+
+abbrev parted : Row → ℕ → ℕ → Bool
+parted r lo hi = ltb (r .high) lo || ltb hi (r .low)
+
+-- where the table leads all bytes of the range, if it leads them alike
+unfoldable pub landing : ℕ → ℕ → List Row → Option State
+landing lo hi [] = some dead
+landing lo hi (r ∷ rs) =
+    elim (covers r lo hi) [ true ↦ some (at (r .to)) | false ↦ elim (parted r lo hi) [ true ↦ landing lo hi rs | false ↦ none ] ]
+
+covered : {lo hi b : ℕ} → lo ≤ b → b ≤ hi → (r : Row) → T (covers r lo hi) → takes r b ≡ true
+covered {lo} {hi} {b} l h r t =
+    let x : r .low ≤ lo = leb→le (r .low) lo (and-left (leb (r .low) lo) (leb hi (r .high)) t) in
+    let y : hi ≤ r .high = leb→le hi (r .high) (and-right (leb (r .low) lo) (leb hi (r .high)) t) in
+    between {lo = r .low} {hi = r .high} {b = b} (omega arith) (omega arith)
+
+passed : {lo hi b : ℕ} → lo ≤ b → b ≤ hi → (r : Row) → T (parted r lo hi) → takes r b ≡ false
+passed {lo} {hi} {b} l h r t =
+    not-T (takes r b)
+    (λ q. or-elim (ltb (r .high) lo) (ltb hi (r .low)) t
+    (λ x. omega (arith, ltb→lt (r .high) lo x, taken-between r b q))
+    (λ x. omega (arith, ltb→lt hi (r .low) x, taken-between r b q)))
+
+pub lands : {lo hi b : ℕ} → lo ≤ b → b ≤ hi → (rs : List Row) (m : State) → landing lo hi rs ≡ some m → pick rs b ≡ m
+unfolding landing pick
+lands l h [] m e = cc
+lands {lo} {hi} {b} l h (r ∷ rs) m e = go (covers r lo hi) refl (parted r lo hi) refl e (λ q. lands l h rs m q)
+  where
+    go : (x : Bool) → covers r lo hi ≡ x → (y : Bool) → parted r lo hi ≡ y →
+        elim x [ true ↦ some (at (r .to)) | false ↦ elim y [ true ↦ landing lo hi rs | false ↦ none ] ] ≡ some m →
+        (landing lo hi rs ≡ some m → pick rs b ≡ m) → pick (r ∷ rs) b ≡ m
+    go true p y q f again = hit r rs b (covered l h r (so p)) ∙ cc
+    go false p true q f again = miss r rs b (passed l h r (so q)) ∙ again f
+    go false p false q f again = cc
+
+-- a step by a byte of a range, by computing
+pub leads : (c : Control) {lo hi b : ℕ} → lo ≤ b → b ≤ hi → (m : State) → landing lo hi (rows c) ≡ some m → step (at c) b ≡ m
+unfolding step
+leads c l h m e = lands l h (rows c) m e
+
+pub leads-in : (c : Control) {lo hi : ℕ} (b : In lo hi) (m : State) → landing lo hi (rows c) ≡ some m → step (at c) (b .byte) ≡ m
+leads-in c b m e = leads c (in-low b) (in-high b) m e
+
+-- what holds of every row's target holds of the state that a byte leads to
+abbrev pub Every : (Control → Type 0) → List Row → Type 0
+Every P [] = Unit {0}
+Every P (r ∷ rs) = P (r .to) × Every P rs
+
+abbrev pub Lives : (Control → Type 0) → State → Type 0
+Lives P dead = Unit {0}
+Lives P (at c) = P c
+
+pub every-pick : (P : Control → Type 0) (rs : List Row) (b : ℕ) → Every P rs → Lives P (pick rs b)
+unfolding pick
+every-pick P [] b f = tt
+every-pick P (r ∷ rs) b f = go (takes r b) (every-pick P rs b (f .1))
+  where
+    go : (x : Bool) → Lives P (pick rs b) → Lives P (elim x [ true ↦ at (r .to) | false ↦ pick rs b ])
+    go true again = f .0
+    go false again = again

@@ -1,0 +1,276 @@
+-- What the machine accepts is the text of a query: `Rest c s`, that s completes a query from the control state c,
+-- goes back over each row of the tables, from the last byte to the first. Assumes nothing.
+use mathlib.Core.Path.{_≡_, refl}
+use mathlib.Core.List.{List, [], _∷_}
+use mathlib.Core.Bool.{Bool, true, false}
+use Prim.Native.Nat.{ℕ, zero, suc}
+use native.Mathlib.Omega.{arith}
+use Rattle.encoding.specs.Bytes as B
+use Rattle.encoding.specs.Bytes.{In, Blank, Blanks, blankByte, putBlanks}
+use Rattle.encoding.specs.Utf8 as U
+use Rattle.encoding.specs.Utf8.{Wide, putWide}
+use Rattle.query.specs.Grammar as G
+use Rattle.query.specs.Grammar.{First, Later, Quote, Char, quoteByte, Short, Inner, Depth, Segment, Query, QueryText}
+use Rattle.query.specs.Grammar.{putFirst, putLaters, putChar, putChars, putShort, putInner, putSegment, putSpaced, putQuery, text}
+use Rattle.query.specs.Machine as M
+use Rattle.query.specs.Machine.{Home, short, quoted, anyTail, secondLow, secondHigh, Control, root, done, gap, opened, closing, inside, tailDue, State, dead, at}
+use Rattle.query.specs.Machine.{Row, range, only, wideRows, letterRows, firstRows, stepRows, beginRows, dotRows, innerRows, charRows, rows, takes, pick, step, run, final, accept, start}
+use Rattle.query.specs.Rows.{so, in-low, in-high}
+
+-- what completes a query, by where the machine is
+
+data Done : List ℕ → Type 0 where
+  steps : (t : Query) → Done (putQuery t [])
+
+data Gap : List ℕ → Type 0 where
+  spaced : (w : Blanks) (g : Segment) (t : Query) → Gap (putBlanks w (putSegment g (putQuery t [])))
+
+data Closing : List ℕ → Type 0 where
+  closes : (w : Blanks) (t : Query) → Closing (putBlanks w (0x5D ∷ putQuery t []))
+
+data Opened : List ℕ → Type 0 where
+  opens : (w : Blanks) (i : Inner) (w′ : Blanks) (t : Query) → Opened (putBlanks w (putInner i (putBlanks w′ (0x5D ∷ putQuery t []))))
+
+data Dotted : Depth → List ℕ → Type 0 where
+  takes-short : {d : Depth} (x : Short) (t : Query) → Dotted d (putShort x (putQuery t []))
+  deeper : {s : List ℕ} → Dotted G.deep s → Dotted G.plain (0x2E ∷ s)
+  brackets : {s : List ℕ} → Opened s → Dotted G.deep (0x5B ∷ s)
+
+data Shorthand : List ℕ → Type 0 where
+  laters : (cs : List Later) (t : Query) → Shorthand (putLaters cs (putQuery t []))
+
+data Quoted (q : Quote) : List ℕ → Type 0 where
+  chars : {u : List ℕ} (cs : List (Char q)) → Closing u → Quoted q (putChars cs (quoteByte q ∷ u))
+
+abbrev Inside : Home → List ℕ → Type 0
+Inside short = Shorthand
+Inside (quoted q) = Quoted q
+
+-- a byte of a range, and then L
+data Then (lo hi : ℕ) (L : List ℕ → Type 0) : List ℕ → Type 0 where
+  then : {s : List ℕ} (b : In lo hi) → L s → Then lo hi L (b .byte ∷ s)
+
+abbrev Tails : ℕ → Home → List ℕ → Type 0
+Tails zero h = Inside h
+Tails (suc n) h = Then 0x80 0xBF (Tails n h)
+
+data Root : List ℕ → Type 0 where
+  begins : (t : Query) → Root (0x24 ∷ putQuery t [])
+
+abbrev Rest : Control → List ℕ → Type 0
+Rest root = Root
+Rest done = Done
+Rest gap = Gap
+Rest (M.dotted d) = Dotted d
+Rest opened = Opened
+Rest closing = Closing
+Rest (inside h) = Inside h
+Rest (tailDue p n h) = Then (secondLow p) (secondHigh p) (Tails n h)
+
+abbrev RestOf : State → List ℕ → Type 0
+RestOf dead s = ⊥
+RestOf (at c) s = Rest c s
+
+-- each row of a table leads back to L
+abbrev Back : (List ℕ → Type 0) → Row → Type 0
+Back L r = (b : In (r .low) (r .high)) (s : List ℕ) → Rest (r .to) s → L (b .byte ∷ s)
+
+abbrev Backs : (List ℕ → Type 0) → List Row → Type 0
+Backs L [] = Unit {0}
+Backs L (r ∷ rs) = Back L r × Backs L rs
+
+back-pick : (L : List ℕ → Type 0) (rs : List Row) (b : ℕ) (s : List ℕ) → Backs L rs → RestOf (pick rs b) s → L (b ∷ s)
+unfolding pick
+back-pick L [] b s f x = absurd x
+back-pick L (r ∷ rs) b s f x = go (takes r b) refl x (λ y. back-pick L rs b s (f .1) y)
+  where
+    go : (t : Bool) → takes r b ≡ t → RestOf (elim t [ true ↦ at (r .to) | false ↦ pick rs b ]) s → (RestOf (pick rs b) s → L (b ∷ s)) → L (b ∷ s)
+    go true e y again = f .0 (record { byte = b; ok = so e }) s y
+    go false e y again = again y
+
+-- a table that leads back to less
+widen : (L K : List ℕ → Type 0) (rs : List Row) → ((s : List ℕ) → L s → K s) → Backs L rs → Backs K rs
+widen L K [] g f = tt
+widen L K (r ∷ rs) g f = ((λ b s x. g (b .byte ∷ s) (f .0 b s x)), widen L K rs g (f .1))
+
+-- a row of one byte
+one : (n : ℕ) (c : Control) (L : List ℕ → Type 0) → ((s : List ℕ) → Rest c s → L (n ∷ s)) → Back L (only n c)
+one n c L f b s x = let e : b .byte ≡ n = omega (arith, in-low b, in-high b) in rw e (f s x)
+
+-- blanks before what takes blanks
+back-blanks : (c : Control) (L : List ℕ → Type 0) (rs : List Row) → ((b : Blank) (s : List ℕ) → Rest c s → L (blankByte b ∷ s)) → Backs L rs → Backs L (M.blankRows c rs)
+back-blanks c L rs f r =
+    (one 0x20 c L (f B.space), (one 0x09 c L (f B.tab), (one 0x0A c L (f B.feed), (one 0x0D c L (f B.return), r))))
+
+-- a code point before what takes one
+back-wide : (h : Home) (L : List ℕ → Type 0) (rs : List Row) → ((p : Wide) (s : List ℕ) → Inside h s → L (putWide p s)) → Backs L rs → Backs L (wideRows h rs)
+unfolding putWide
+back-wide h L rs f r =
+    (c2-df, (e0, (e1-ec, (ed, (ee-ef, (f0, (f1-f3, (f4, r))))))))
+  where
+    c2-df : Back L (range 0xC2 0xDF (tailDue anyTail 0 h))
+    c2-df b s (then {s = u} y x) = f (U.c2-df b y) u x
+
+    e0 : Back L (range 0xE0 0xE0 (tailDue M.afterE0 1 h))
+    e0 b s (then y (then {s = u} z x)) = f (U.e0 b y z) u x
+
+    e1-ec : Back L (range 0xE1 0xEC (tailDue anyTail 1 h))
+    e1-ec b s (then y (then {s = u} z x)) = f (U.e1-ec b y z) u x
+
+    ed : Back L (range 0xED 0xED (tailDue M.afterED 1 h))
+    ed b s (then y (then {s = u} z x)) = f (U.ed b y z) u x
+
+    ee-ef : Back L (range 0xEE 0xEF (tailDue anyTail 1 h))
+    ee-ef b s (then y (then {s = u} z x)) = f (U.ee-ef b y z) u x
+
+    f0 : Back L (range 0xF0 0xF0 (tailDue M.afterF0 2 h))
+    f0 b s (then y (then z (then {s = u} w x))) = f (U.f0 b y z w) u x
+
+    f1-f3 : Back L (range 0xF1 0xF3 (tailDue anyTail 2 h))
+    f1-f3 b s (then y (then z (then {s = u} w x))) = f (U.f1-f3 b y z w) u x
+
+    f4 : Back L (range 0xF4 0xF4 (tailDue M.afterF4 2 h))
+    f4 b s (then y (then z (then {s = u} w x))) = f (U.f4 b y z w) u x
+
+-- a name's first character before the rest of a shorthand name
+back-first : (L : List ℕ → Type 0) (rs : List Row) → ((x : First) (s : List ℕ) → Shorthand s → L (putFirst x s)) → Backs L rs → Backs L (firstRows rs)
+unfolding putFirst
+back-first L rs f r =
+    back-wide short L (letterRows rs) (λ p s x. f (First.wide p) s x)
+    ((λ b s x. f (G.upper b) s x), ((λ b s x. f (G.lower b) s x), (one 0x5F (inside short) L (λ s x. f G.underscore s x), r)))
+
+-- before a step
+
+blank-gap : (b : Blank) (s : List ℕ) → Gap s → Gap (blankByte b ∷ s)
+unfolding putBlanks
+blank-gap b s (spaced w g t) = spaced (b ∷ w) g t
+
+dot-gap : (s : List ℕ) → Dotted G.plain s → Gap (0x2E ∷ s)
+unfolding putBlanks putSegment
+dot-gap s (takes-short x t) = spaced [] (G.dotted G.plain x) t
+dot-gap s (deeper (takes-short x t)) = spaced [] (G.dotted G.deep x) t
+dot-gap s (deeper (brackets (opens w i w′ t))) = spaced [] (G.bracketed G.deep w i w′) t
+
+bracket-gap : (s : List ℕ) → Opened s → Gap (0x5B ∷ s)
+unfolding putBlanks putSegment
+bracket-gap s (opens w i w′ t) = spaced [] (G.bracketed G.plain w i w′) t
+
+back-gap : Backs Gap beginRows
+back-gap = back-blanks gap Gap stepRows blank-gap (one 0x2E (M.dotted G.plain) Gap dot-gap, (one 0x5B opened Gap bracket-gap, tt))
+
+gap-done : (s : List ℕ) → Gap s → Done s
+unfolding putQuery putSpaced
+gap-done s (spaced w g t) = steps (record { before = w; segment = g } ∷ t)
+
+-- behind `.` and `..`
+
+dotted-first : (d : Depth) (x : First) (s : List ℕ) → Shorthand s → Dotted d (putFirst x s)
+unfolding putShort
+dotted-first d x s (laters cs t) = takes-short (G.shorthand x cs) t
+
+dotted-star : (d : Depth) (s : List ℕ) → Done s → Dotted d (0x2A ∷ s)
+unfolding putShort
+dotted-star d s (steps t) = takes-short Short.star t
+
+back-dotted : (d : Depth) → Backs (Dotted d) (rows (M.dotted d))
+back-dotted G.plain = back-first (Dotted G.plain) (dotRows G.plain) (dotted-first G.plain) (one 0x2A done (Dotted G.plain) (dotted-star G.plain), (one 0x2E (M.dotted G.deep) (Dotted G.plain) (λ s x. deeper x), tt))
+back-dotted G.deep = back-first (Dotted G.deep) (dotRows G.deep) (dotted-first G.deep) (one 0x2A done (Dotted G.deep) (dotted-star G.deep), (one 0x5B opened (Dotted G.deep) (λ s x. brackets x), tt))
+
+done-shorthand : (s : List ℕ) → Done s → Shorthand s
+unfolding putLaters
+done-shorthand s (steps t) = laters [] t
+
+shorthand-first : (x : First) (s : List ℕ) → Shorthand s → Shorthand (putFirst x s)
+unfolding putLaters
+shorthand-first x s (laters cs t) = laters (G.first x ∷ cs) t
+
+shorthand-digit : (b : In 0x30 0x39) (s : List ℕ) → Shorthand s → Shorthand (b .byte ∷ s)
+unfolding putLaters
+shorthand-digit b s (laters cs t) = laters (G.digit b ∷ cs) t
+
+-- in brackets
+
+blank-opened : (b : Blank) (s : List ℕ) → Opened s → Opened (blankByte b ∷ s)
+unfolding putBlanks
+blank-opened b s (opens w i w′ t) = opens (b ∷ w) i w′ t
+
+blank-closing : (b : Blank) (s : List ℕ) → Closing s → Closing (blankByte b ∷ s)
+unfolding putBlanks
+blank-closing b s (closes w t) = closes (b ∷ w) t
+
+opened-star : (s : List ℕ) → Closing s → Opened (0x2A ∷ s)
+unfolding putBlanks putInner
+opened-star s (closes w t) = opens [] Inner.star w t
+
+opened-quote : (q : Quote) (s : List ℕ) → Quoted q s → Opened (quoteByte q ∷ s)
+unfolding putBlanks putInner
+opened-quote q s (chars cs (closes w t)) = opens [] (G.quoted q cs) w t
+
+closing-done : (s : List ℕ) → Done s → Closing (0x5D ∷ s)
+unfolding putBlanks
+closing-done s (steps t) = closes [] t
+
+char-quoted : (q : Quote) (c : Char q) (s : List ℕ) → Quoted q s → Quoted q (putChar c s)
+unfolding putChars
+char-quoted q c s (chars cs x) = chars (c ∷ cs) x
+
+quote-quoted : (q : Quote) (s : List ℕ) → Closing s → Quoted q (quoteByte q ∷ s)
+unfolding putChars
+quote-quoted q s x = chars [] x
+
+back-quoted : (q : Quote) → Backs (Quoted q) (rows (inside (quoted q)))
+unfolding putChar
+back-quoted q =
+    back-wide (quoted q) (Quoted q) (charRows q) (λ p s x. char-quoted q (Char.wide p) s x)
+    ((λ b s x. char-quoted q (G.low b) s x), ((λ b s x. char-quoted q (G.mid b) s x), ((λ b s x. char-quoted q (G.high b) s x), (one (quoteByte q) closing (Quoted q) (quote-quoted q), tt))))
+
+root-done : (s : List ℕ) → Done s → Root (0x24 ∷ s)
+root-done s (steps t) = begins t
+
+back : (c : Control) → Backs (Rest c) (rows c)
+back root = (one 0x24 done Root root-done, tt)
+back done = widen Gap Done beginRows gap-done back-gap
+back gap = back-gap
+back (M.dotted d) = back-dotted d
+back opened =
+    back-blanks opened Opened innerRows blank-opened
+    (one 0x2A closing Opened opened-star, (one 0x27 (inside (quoted G.single)) Opened (opened-quote G.single), (one 0x22 (inside (quoted G.double)) Opened (opened-quote G.double), tt)))
+back closing = back-blanks closing Closing (only 0x5D done ∷ []) blank-closing (one 0x5D done Closing closing-done, tt)
+back (inside short) = back-first Shorthand (range 0x30 0x39 (inside short) ∷ beginRows) shorthand-first (shorthand-digit, widen Gap Shorthand beginRows (λ s x. done-shorthand s (gap-done s x)) back-gap)
+back (inside (quoted q)) = back-quoted q
+back (tailDue p zero h) = ((λ b s x. then b x), tt)
+back (tailDue p (suc n) h) = ((λ b s x. then b x), tt)
+
+back-step : (st : State) (b : ℕ) (s : List ℕ) → RestOf (step st b) s → RestOf st (b ∷ s)
+unfolding step
+back-step dead b s x = x
+back-step (at c) b s x = back-pick (Rest c) (rows c) b s (back c) x
+
+-- nothing is left
+over : Done []
+unfolding putQuery
+over = steps []
+
+rest-nil : (c : Control) → final c ≡ true → Rest c []
+rest-nil root e = absurd (so e)
+rest-nil done e = over
+rest-nil gap e = absurd (so e)
+rest-nil (M.dotted d) e = absurd (so e)
+rest-nil opened e = absurd (so e)
+rest-nil closing e = absurd (so e)
+rest-nil (inside short) e = done-shorthand [] over
+rest-nil (inside (quoted q)) e = absurd (so e)
+rest-nil (tailDue p n h) e = absurd (so e)
+
+rest : (st : State) (s : List ℕ) → accept (run st s) ≡ true → RestOf st s
+unfolding run
+rest dead [] e = absurd (so e)
+rest (at c) [] e = rest-nil c e
+rest st (b ∷ s) e = back-step st b s (rest (step st b) s e)
+
+tree-of : (s : List ℕ) → Root s → QueryText s
+unfolding text
+tree-of s (begins t) = record { tree = t; written = refl }
+
+pub sound : (s : List ℕ) → accept (run start s) ≡ true → QueryText s
+sound s e = tree-of s (rest start s e)

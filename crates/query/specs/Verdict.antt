@@ -1,0 +1,56 @@
+-- Grounds 1 to 3 of a query's bytes with their places, and its steps, by computing; and what each ground says (document 01, "Grounds for refusing").
+use mathlib.Core.Path.{_≡_}
+use mathlib.Core.List.{List, _∷_, _++_, map}
+use mathlib.Core.Bool.{true, false}
+use Prim.Native.Nat.{ℕ, _+_, _≤_, _<_}
+use lib.Dec.{leb}
+use lib.ListN.{length, getD}
+use Rattle.encoding.specs.Prefix.{DeadPlace}
+use Rattle.encoding.specs.Verdict
+use Rattle.encoding.specs.Verdict.{Verdict, refused}
+use Rattle.query.specs.Grammar.{Spaced, Query, QueryText, text}
+use Rattle.query.specs.Steps.{Step}
+use Rattle.query.specs.Machine.{root}
+use Rattle.query.specs.Read.{Placed, Reading, good, bad, reading, stepsRead}
+
+abbrev pub maxQueryBytes : ℕ
+maxQueryBytes = 1024
+
+abbrev pub maxSteps : ℕ
+maxSteps = 16
+
+-- the steps of a query; none where it is not in the grammar
+unfoldable pub stepsIn : List ℕ → List Step
+unfolding reading
+stepsIn s = map (λ x. x .step) (stepsRead (reading root 0 s))
+
+-- the place of the step number k, counted from 0
+abbrev pub placeOf : ℕ → List Placed → ℕ
+placeOf k l = getD (map (λ x. x .place) l) k 0
+
+-- ground 3
+unfoldable pub counted : List Placed → Verdict
+counted l = elim (leb (length l) maxSteps) [ true ↦ Verdict.taken | false ↦ refused 3 (placeOf maxSteps l) ]
+
+-- ground 2, and then ground 3
+unfoldable pub judged : Reading → Verdict
+unfolding counted
+judged (good a) = counted (a .later)
+judged (bad p) = refused 2 p
+
+-- ground 1, and then the others
+unfoldable pub queryVerdict : List ℕ → Verdict
+unfolding judged reading
+queryVerdict s = elim (leb (length s) maxQueryBytes) [ true ↦ judged (reading root 0 s) | false ↦ refused 1 maxQueryBytes ]
+
+-- what a verdict says of a query
+pub data QuerySays (s : List ℕ) : Verdict → Type 0 where
+  -- none of the grounds 1 to 3 fits
+  taken : length s ≤ maxQueryBytes → (t : Query) → text t ≡ s → length t ≤ maxSteps → QuerySays s Verdict.taken
+  -- ground 1: more than 1,024 bytes
+  long : maxQueryBytes < length s → QuerySays s (refused 1 maxQueryBytes)
+  -- ground 2: not in the grammar; the place of its dead byte
+  wrong : length s ≤ maxQueryBytes → (QueryText s → ⊥) → (p : ℕ) → DeadPlace QueryText s p → QuerySays s (refused 2 p)
+  -- ground 3: x is the 17th step; the place of the `.` or `[` that begins it, after the blanks before it
+  many : length s ≤ maxQueryBytes → (t : Query) (x : Spaced) (u : Query) → text (t ++ x ∷ u) ≡ s → length t ≡ maxSteps →
+      QuerySays s (refused 3 (length (text t) + length (x .before)))

@@ -1,0 +1,52 @@
+-- How texts of the record grammar look to a scanner: what no blank begins, what ends a word, and where a string's quotes are.
+use mathlib.Core.Path.{_≡_, refl, sym, ap, _∙_}
+use mathlib.Core.List.{List, [], _∷_, _++_}
+use mathlib.Core.Bool.{Bool, true, false, not, _&&_, _||_}
+use Prim.Native.Nat.{ℕ, zero, suc, _+_, _≤_}
+use lib.Dec.{eqb}
+use lib.ListN.{length}
+use Rattle.encoding.specs.Bytes.{In, putIn, Blank, Blanks, blankByte, putBlanks}
+use Rattle.encoding.specs.Bytes as B
+use Rattle.encoding.specs.Class.{classIn, classOf}
+use Rattle.encoding.specs.Utf8.{Wide, putWide}
+use Rattle.encoding.specs.Utf8 as U
+use Rattle.json.specs.Grammar as G
+use Rattle.json.specs.Grammar.{Literal, Minus, Int, Frac, Exp, Char, Kind, Key, Value, Items, More, putLiteral, putMinus, putInt, putFrac, putExp, putExpSign, putChar, putChars, putString, putKey, putValue, putItems, putMore}
+
+-- a blank
+unfoldable pub isBlank : ℕ → Bool
+unfolding classOf
+isBlank b = eqb (classOf b) 7
+
+-- a byte that ends a literal or a number: a closing bracket, a comma or a blank
+unfoldable pub endsWord : ℕ → Bool
+unfolding classOf
+endsWord b = eqb (classOf b) 2 || (eqb (classOf b) 4 || eqb (classOf b) 7)
+
+-- no blank stands first
+unfoldable pub solid : List ℕ → Bool
+unfolding isBlank
+solid [] = true
+solid (b ∷ s) = not (isBlank b)
+
+-- a word that stands before this text ends there
+unfoldable pub stopped : List ℕ → Bool
+unfolding endsWord
+stopped [] = true
+stopped (b ∷ s) = endsWord b
+
+-- bytes none of which ends a word
+unfoldable pub wordy : List ℕ → Bool
+unfolding endsWord
+wordy [] = true
+wordy (b ∷ s) = not (endsWord b) && wordy s
+
+-- a piece of a string's inside: a byte that is neither quote nor backslash, or a backslash with the byte after it
+pub data Piece : Type 0 where
+  plain : (b : ℕ) → (eqb b 0x22 || eqb b 0x5C) ≡ false → Piece
+  escaped : ℕ → Piece
+
+unfoldable pub putPieces : List Piece → List ℕ → List ℕ
+putPieces [] s = s
+putPieces (plain b h ∷ ps) s = b ∷ putPieces ps s
+putPieces (escaped b ∷ ps) s = 0x5C ∷ b ∷ putPieces ps s

@@ -1,0 +1,1 @@
+// Scanners over a checked record.

@@ -1,0 +1,1 @@
+// Where a record's strings are, and that word two says so: definitions and theorems only, in specs/.
