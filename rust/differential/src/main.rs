@@ -5,9 +5,8 @@
 //! `differential --measure-stack` prints the smallest stack on which each call does at 512 levels.
 //! `differential --picklist PROGRAM [--seed N] [--cases N]` compares a program `picklist`.
 
-use differential::exports::Linked;
 use differential::{
-    blocks, deep, long, picklist, random, samples, short, Comparison, DeepCall, Mismatch,
+    blocks, deep, long, picklist, random, samples, short, Comparison, DeepCall, Linked, Mismatch,
     DEEP_CALLS, SMALL_STACK,
 };
 use std::path::PathBuf;

@@ -2,8 +2,8 @@
 //! limit on a small stack.
 
 use crate::compare::{shown, shown_outcome};
-use crate::{Comparison, Engine, Mismatch};
-use oracle::{MAX_LEVELS, MAX_RECORD};
+use crate::{Comparison, Engine, Independent, Mismatch};
+use oracle::{Answer, Value, Words, MAX_LEVELS, MAX_RECORD};
 use records::{cases, large, Random};
 use std::thread;
 
@@ -148,11 +148,16 @@ pub enum DeepCall {
     Plain,
     Jumping,
     Find,
+    Sort,
 }
 
 /// These calls by name.
-pub const DEEP_CALLS: [(&str, DeepCall); 3] =
-    [("plain", DeepCall::Plain), ("jumping", DeepCall::Jumping), ("find", DeepCall::Find)];
+pub const DEEP_CALLS: [(&str, DeepCall); 4] = [
+    ("list_plain", DeepCall::Plain),
+    ("list_jumping", DeepCall::Jumping),
+    ("find_value", DeepCall::Find),
+    ("sort_block", DeepCall::Sort),
+];
 
 /// One call on records of 512 levels, and of one more, on a thread with a stack of so many bytes.
 /// Expected answers are worked out elsewhere. A stack that is too small ends the process.
@@ -172,18 +177,41 @@ pub fn deep(engine: &dyn Engine, call: DeepCall, stack: usize) -> Result<(), Mis
             );
             let innermost = record.find('7').unwrap_or(0);
             for query in ["$..*", "$..a..*", "$..b.*..a", "$.a.b", "$"] {
-                on_small_stack(
-                    engine,
-                    call,
-                    stack,
-                    query.as_bytes(),
-                    record.as_bytes(),
-                    innermost,
-                )?;
+                let (query, record) = (query.as_bytes(), record.as_bytes());
+                on_small_stack(engine, call, stack, Lent { query, record, offset: innermost })?;
             }
         }
     }
     Ok(())
+}
+
+/// What a call answers.
+#[derive(PartialEq, Debug)]
+enum Outcome {
+    List(Answer),
+    Find(Value),
+    Sort(Words),
+}
+
+/// What a call is made with: the value finder is asked for the offset, the sorter for the first
+/// block.
+#[derive(Clone, Copy)]
+struct Lent<'a> {
+    query: &'a [u8],
+    record: &'a [u8],
+    offset: usize,
+}
+
+impl DeepCall {
+    fn make(self, engine: &dyn Engine, lent: Lent, list: &mut [u32]) -> Outcome {
+        let Lent { query, record, offset } = lent;
+        match self {
+            DeepCall::Plain => Outcome::List(engine.list_plain(query, record, list)),
+            DeepCall::Jumping => Outcome::List(engine.list_jumping(query, record, list)),
+            DeepCall::Find => Outcome::Find(engine.find_value(record, offset)),
+            DeepCall::Sort => Outcome::Sort(engine.sort_block(record, false, false)),
+        }
+    }
 }
 
 /// One call on a thread of its own.
@@ -191,34 +219,24 @@ fn on_small_stack(
     engine: &dyn Engine,
     call: DeepCall,
     stack: usize,
-    query: &[u8],
-    record: &[u8],
-    offset: usize,
+    lent: Lent,
 ) -> Result<(), Mismatch> {
     let mut wanted = vec![u32::MAX; 2 * MAX_LEVELS + 2];
-    let mut lent = wanted.clone();
-    let expected = match call {
-        DeepCall::Find => format!("{:?}", oracle::find_value(record, offset)),
-        _ => format!("{:?}", oracle::list(query, record, &mut wanted)),
-    };
+    let mut list = wanted.clone();
+    let expected = call.make(&Independent, lent, &mut wanted);
     let found = thread::scope(|scope| {
-        let list = &mut lent;
-        let run = move || match call {
-            DeepCall::Plain => Ok(engine.list_plain(query, record, list)),
-            DeepCall::Jumping => Ok(engine.list_jumping(query, record, list)),
-            DeepCall::Find => Err(engine.find_value(record, offset)),
-        };
+        let list = &mut list;
+        let run = move || call.make(engine, lent, list);
         let thread = thread::Builder::new().stack_size(stack).spawn_scoped(scope, run);
-        let answer = thread.expect("a thread can be made").join().expect("the call ends");
-        answer.map_or_else(|value| format!("{value:?}"), |answer| format!("{answer:?}"))
+        thread.expect("a thread can be made").join().expect("the call ends")
     });
-    if found == expected && lent == wanted {
+    if found == expected && list == wanted {
         return Ok(());
     }
     Err(Mismatch {
         call: "a call on a small stack",
-        lent: format!("{call:?} query {} record {}", shown(query), shown(record)),
-        expected: shown_outcome(&expected, &wanted, &lent, 0),
-        found: shown_outcome(&found, &lent, &wanted, 0),
+        lent: format!("{call:?} query {} record {}", shown(lent.query), shown(lent.record)),
+        expected: shown_outcome(&format!("{expected:?}"), &wanted, &list, 0),
+        found: shown_outcome(&format!("{found:?}"), &list, &wanted, 0),
     })
 }

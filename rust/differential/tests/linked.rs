@@ -1,14 +1,14 @@
 //! The calls that are linked in, with a fixed seed and a bounded number of cases.
 
-use differential::exports::{
-    woodcrock_find_value, woodcrock_list_jumping, woodcrock_list_plain, woodcrock_sort_block,
-    Linked, Lister,
-};
 use differential::{
-    blocks, deep, long, random, samples, short, Comparison, Counts, Mismatch, DEEP_CALLS,
+    blocks, deep, long, random, samples, short, Comparison, Counts, Linked, Mismatch, DEEP_CALLS,
     SMALL_STACK,
 };
 use std::ptr::{null, null_mut, NonNull};
+use woodcrock::sys::{
+    woodcrock_find_value, woodcrock_list_jumping, woodcrock_list_plain, woodcrock_sort_block,
+    Lister,
+};
 
 const SEED: u64 = 1;
 const CASES: u64 = 20_000;

@@ -131,6 +131,14 @@ fn values_by_offset() {
     assert_eq!(value_at(b"\xEF\xBB\xBF7", 3), Err(malformed));
 }
 
+/// A query may be a part of the record that it is asked of.
+#[test]
+fn a_query_in_its_record() {
+    let record = br#"["$.*",2]"#;
+    let matches = list(&record[2..5], record).expect("both are taken");
+    assert!(matches.ranges().eq([1..6, 7..8]));
+}
+
 #[test]
 fn every_message() {
     let messages = Ground::ALL.map(|ground| Refusal { ground, place: 42 }.to_string());
