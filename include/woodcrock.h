@@ -5,12 +5,16 @@
  * where in the record the nodes stand that the query picks out; nothing is copied or decoded.
  * Link with libwoodcrock_c.a.
  *
+ * A query is `$` and then up to 16 steps: `.name`, `.*`, `['name']`, `["name"]` and `[*]` take from
+ * the node itself; a deep step, `..` before the same (`..name`, `..['name']`), takes from the node
+ * and from every node below it. Blanks may stand before a step and inside brackets.
+ *
  * What a caller owes. The calls cannot test these; all else is free, and any bytes are answered.
  *   - A pointer with a length n > 0 is that of n readable bytes, or, for `list`, of n readable and
  *     writable numbers at an address that is a multiple of 4. With length 0 any pointer will do,
  *     NULL too.
- *   - Nothing else writes to what is lent while the call runs, and `list` overlaps neither `query`
- *     nor `record`. `query` and `record` may overlap each other.
+ *   - While the call runs, nothing else writes to what is lent or reads `list`, and `list` overlaps
+ *     neither `query` nor `record`. `query` and `record` may overlap each other.
  *   - A bool is 0 or 1.
  *
  * What every call keeps. It ends. It reads nothing but what it is lent, writes nothing but `list`,
@@ -84,9 +88,11 @@ typedef struct {
  * is listed once, and the first bytes rise. A name in the query is compared byte for byte with what
  * stands between the quotes in the record; members that repeat a name all match.
  *
- * Ground 0: every node picked out is in the list, `pairs` of them, and no other. `peak` is the
- *   greatest number of containers on one path down from the root whose marks differ from those of
- *   the container around them (the frames that the walk held at once).
+ * Ground 0: every node picked out is in the list, `pairs` of them, and no other. `peak` is the most
+ *   frames on one path down from the root: an object or array below the root costs a frame if its
+ *   marks differ from those of the one around it. A node has mark i, from 0 up to the number of
+ *   steps less 1, if the first i steps, as a query, pick it out, or if step i + 1 is deep and its
+ *   parent has mark i.
  * Ground 7: the list holds the first list_len / 2 nodes, which are all before `place`; `pairs` is
  *   list_len / 2.
  * Grounds 1 to 6: nothing is written; `pairs` is 0.

@@ -62,11 +62,11 @@ pub struct Listed {
     pub peak: u32,
 }
 
-/// The bytes of a record that a list has a pair for at first, and the pairs that it has at least. No
-/// record has more nodes than a pair for two bytes and one more.
+/// A list has at first a pair for so many bytes of the record, and so many pairs more.
 const BYTES_TO_A_PAIR: usize = 8;
-const FEWEST_PAIRS: usize = 16;
-/// How many times as long a list gets that was too short.
+const MORE_PAIRS: usize = 16;
+/// How many times as long a list gets that was too short. No value of n bytes has more than
+/// (n + 1) / 2 nodes, so that once is enough.
 const GROWTH: usize = 4;
 
 impl Walk {
@@ -90,7 +90,7 @@ impl Walk {
         record: &'record [u8],
     ) -> Result<Matches<'record>, Refusal> {
         let taken = record.len().min(MAX_RECORD);
-        let mut length = 2 * (taken / BYTES_TO_A_PAIR + FEWEST_PAIRS);
+        let mut length = 2 * (taken / BYTES_TO_A_PAIR + MORE_PAIRS);
         loop {
             // Memory that is asked for as zeros is not touched before something is written there.
             let mut numbers = vec![0; length];

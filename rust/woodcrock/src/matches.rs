@@ -34,8 +34,10 @@ impl<'record> Matches<'record> {
         Values { record: self.record, ranges: self.ranges() }
     }
 
-    /// The greatest number of containers on one path down from the root whose marks differ from
-    /// those of the container around them: the most frames that the walk held at once.
+    /// The most frames on one path down from the root. An object or array below the root costs a
+    /// frame if its marks differ from those of the one around it. A node has mark i, from 0 up to
+    /// the number of steps less 1, if the first i steps, as a query, pick it out, or if step i + 1
+    /// is deep and its parent has mark i.
     pub fn peak(&self) -> u32 {
         self.peak
     }
