@@ -1,3 +1,14 @@
+pub mod Small
 pub mod Lister
 pub mod Finder
+pub mod Outcome
 pub mod Table
+pub mod Enumerates
+pub mod Within
+pub mod ListerSays
+pub mod ListerIs
+pub mod Demand3
+pub mod Demand3Met
+pub mod FinderSays
+pub mod FinderIs
+pub mod Examples

@@ -3,25 +3,7 @@ use mathlib.Core.Path.{_≡_, refl}
 use mathlib.Core.List.{List, [], _∷_, map}
 use Prim.Native.Nat.{ℕ}
 use Rattle.encoding.specs.Ascii.{ascii}
-use Rattle.answers.specs.Lister.{ground, place, pairs, peakAnswer, listAfter}
-
--- the four numbers of an answer, and the list afterwards
-pub record Outcome : Type 0 where
-  pub ground : ℕ
-  pub place : ℕ
-  pub pairs : ℕ
-  pub peak : ℕ
-  pub after : List ℕ
-
-unfoldable pub outcome : (query text list : List ℕ) → Outcome
-unfolding ground place pairs peakAnswer listAfter
-outcome q t l = record { ground = ground q t l; place = place q t l; pairs = pairs q t l; peak = peakAnswer q t l; after = listAfter q t l }
-
-abbrev pub taken : (pairs peak : ℕ) → (after : List ℕ) → Outcome
-taken n k a = record { ground = 0; place = 0; pairs = n; peak = k; after = a }
-
-abbrev pub refused : (ground place pairs : ℕ) → (after : List ℕ) → Outcome
-refused g p n a = record { ground = g; place = p; pairs = n; peak = 0; after = a }
+use Rattle.answers.specs.Outcome.{Outcome, outcome, taken, refused}
 
 -- a query, a record, a list that held other numbers before, and the outcome
 pub record Row : Type 0 where

@@ -3,14 +3,14 @@ use mathlib.Core.Path.{_≡_, refl, sym, ap, ap₂, _∙_}
 use mathlib.Core.Bool.{Bool, true, false, not, xor, _&&_, _||_}
 use mathlib.Core.Logic.{_⊎_, inl, inr, ⊎-elim}
 use Prim.Native.Nat.{ℕ, zero, suc, _+_, _-_, _*_, _/_, _%_, _^_, _<_, _≤_, min, max}
-use native.Mathlib.Nat.{min-le-left, max-le, min-zero, max-zero, zero-min, zero-max, suc-min-suc, suc-max-suc, pow-suc, mul-one, mod-eq-of-lt}
+use native.Mathlib.Nat.{min-le-left, max-le, min-zero, max-zero, zero-min, zero-max, suc-min-suc, suc-max-suc, pow-suc, mul-one, mod-eq-of-lt, mod-lt}
 use native.Mathlib.Numerals.{add-one}
 use native.Mathlib.Omega.{arith}
 use lib.Bits.{bitAnd, bitOr, bitXor, differ, and-step, or-step, xor-step, and-mask, shifted-half, shifted-even}
 use lib.Dec.{ltb, leb, eqb}
 use lib.Pow.{mod-mod-pow, mod-pow-add, field, shr-shr, pow-pos}
-use lib.Count.{trailingZeros, under, trailing-le}
-use borrow.Author.Tests.{ltb-true, ltb-false, leb-true, leb-false, le-leb, lt-leb, eq-eqb}
+use lib.Count.{ones, onesIn, ones-step, trailingZeros, under, trailing-le}
+use borrow.Author.Tests.{ltb-true, ltb-false, leb-true, leb-false, le-leb, lt-leb, eq-eqb, ne-eqb, eqb-true, eqb-false}
 use Rattle.bits.specs.Bits.{on, bit, digit, number, Lowest}
 use Rattle.bits.specs.Truth.{truth}
 
@@ -164,6 +164,26 @@ bit-shr (suc m) i a =
     let d : suc (m + i) ≡ suc m + i = omega arith in
     ap (bit i) (ap (λ (x : ℕ). a / 2 ^ x) (sym e) ∙ sym (shr-shr a 1 m)) ∙ bit-shr m i (a / 2) ∙ ap (λ (x : ℕ). bit x a) d
 
+one-bit : (i : ℕ) → bit i 1 ≡ eqb i 0
+unfolding bit on
+one-bit zero = refl
+one-bit (suc i) = bit-zero i ∙ sym (ne-eqb (suc i) 0 (λ (e : suc i ≡ 0). omega arith))
+
+-- `1 << i` has bit i and no other
+pub bit-single : (k i j : ℕ) → j < k → bit j (1 * 2 ^ i % 2 ^ k) ≡ eqb j i
+bit-single k i j h =
+    bit-shl k i j 1 h ∙ shifted-is i (λ m. bit m 1) j ∙ ap (λ (b : Bool). leb i j && b) (one-bit (j - i)) ∙ at (eqb j i) refl
+  where
+    at : (b : Bool) → eqb j i ≡ b → (leb i j && eqb (j - i) 0) ≡ b
+    at true q =
+        let e : j ≡ i = eqb-true j i q in
+        rw (le-leb i j (omega arith), eq-eqb (j - i) 0 (omega arith)) refl
+    at false q =
+        let n : j ≡ i → ⊥ = eqb-false j i q in
+        ⊎-elim (λ (l : j < i). rw (lt-leb i j l) refl)
+        (λ (l : i ≤ j). rw (le-leb i j l, ne-eqb (j - i) 0 (λ (e : j - i ≡ 0). n (omega arith))) refl)
+        (lt-or-ge j i)
+
 on-eqb : (x : ℕ) → x < 2 → eqb x 1 ≡ on x
 unfolding on
 on-eqb zero h = refl
@@ -304,6 +324,22 @@ bit-add (suc i) x y c =
     ∙ bit-add i (x / 2) (y / 2) (majority (on (x % 2)) (on (y % 2)) c)
     ∙ ap (xor (xor (bit i (x / 2)) (bit i (y / 2)))) (carry-further c (λ j. bit j x) (λ j. bit j y) i)
 
+-- ---- how many bits are on
+
+-- how many of the first n places f holds at
+unfoldable pub countOn : ℕ → (ℕ → Bool) → ℕ
+countOn zero f = 0
+countOn (suc n) f = digit (f 0) + countOn n (λ i. f (suc i))
+
+pub ones-number : (n : ℕ) (f : ℕ → Bool) → ones (number n f) ≡ countOn n f
+unfolding number countOn ones onesIn
+ones-number zero f = refl
+ones-number (suc n) f =
+    let m : ℕ = number n (λ i. f (suc i)) * 2 + digit (f 0) in
+    let low : m % 2 ≡ digit (f 0) = omega (arith, digit-lt (f 0)) in
+    let high : m / 2 ≡ number n (λ i. f (suc i)) = omega (arith, digit-lt (f 0)) in
+    ones-step m ∙ ap₂ (λ (x y : ℕ). x + y) low (ap ones high ∙ ones-number n (λ i. f (suc i)))
+
 -- ---- trailing zeros, and the lowest bit that is on
 
 trailing-on : (k n : ℕ) → trailingZeros k n < k → bit (trailingZeros k n) n ≡ true
@@ -342,3 +378,12 @@ module _ (n k i : ℕ) (f : ℕ → Bool) (low : Lowest k (number n f) i) where
 
   pub lowest-none : (j : ℕ) → j < n → j < i → f j ≡ false
   lowest-none j h l = sym (bit-number n j f h) ∙ low .none-below j l
+
+-- the number of k bits with bit n alone
+pub bit-alone : (k n i : ℕ) → n < k → bit i (1 * 2 ^ n % 2 ^ k) ≡ eqb i n
+bit-alone k n i h = ⊎-elim (λ (l : i < k). bit-single k n i l)
+    (λ (l : k ≤ i). bit-high k i (1 * 2 ^ n % 2 ^ k) (mod-lt (1 * 2 ^ n) (pow-pos k)) l ∙ sym (ne-eqb i n (λ (e : i ≡ n). omega arith)))
+    (lt-or-ge i k)
+
+pub bit-with : (k m n i : ℕ) → n < k → bit i (bitOr m (1 * 2 ^ n % 2 ^ k)) ≡ (bit i m || (true && eqb i n))
+bit-with k m n i h = bit-or i m (1 * 2 ^ n % 2 ^ k) ∙ ap (λ (b : Bool). bit i m || b) (bit-alone k n i h)

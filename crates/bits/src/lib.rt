@@ -1,5 +1,7 @@
 // Bits of 64-bit words: the lowest that is on, one bit, and eight bytes loaded as a word.
-ghost use Prim.Native.Nat.{_+_, _<_, _≤_};
+ghost use Prim.Native.Nat.{ℕ, _+_, _<_, _≤_};
+ghost use mathlib.Core.Bool.{_||_, _&&_};
+ghost use lib.Dec.{eqb};
 ghost use mathlib.Core.Path.{_≡_};
 ghost use lib.ListN.{length};
 ghost use Rattle.bits.specs.Bits.{bit, Lowest};
@@ -57,4 +59,15 @@ pub fn load8(s: &[u8], i: usize) -> u64
     ensures { λ r. ⌜ Loaded 8 (now (s .entry)) i r ⌝ }
 {
     load4(s, i) + load4(s, i + 4) * 0x100000000
+}
+
+// The 16 bits of `mask`, and bit `n` too where `on`.
+pub fn with_bit(mask: u16, n: usize, on: bool) -> u16
+    requires { ⌜ n < 16 ⌝ }
+    ensures { λ r. ⌜ ((i : ℕ) → bit i r ≡ (bit i mask || (on && eqb i n))) ⌝ }
+{
+    if on {
+        return mask | 1 << n;
+    }
+    mask
 }

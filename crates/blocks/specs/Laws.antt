@@ -2,6 +2,7 @@
 use mathlib.Core.Path.{_≡_, refl, sym, ap, ap₂, _∙_}
 use mathlib.Core.Bool.{Bool, true, false, not, xor, _&&_, _||_, and-false}
 use mathlib.Core.List.{List}
+use mathlib.Core.Logic.{⊎-elim}
 use Prim.Native.Nat.{ℕ, zero, suc, _+_, _<_, _≤_}
 use native.Mathlib.Nat.{add-zero, add-suc, suc-add, zero-add, min-eq-left, min-eq-right, min-le-right}
 use native.Mathlib.Omega.{arith}
@@ -9,8 +10,9 @@ use lib.Dec.{eqb}
 use lib.ListN.{length, take, drop, List·getD-eq-default}
 use lib.Seq.{getD-drop, getD-take}
 use borrow.Author.Tests.{ne-eqb}
-use Rattle.bits.specs.Bits.{bit}
-use Rattle.bits.specs.Laws.{bit-number, number-high}
+use lib.Bits.{bitOr}
+use Rattle.bits.specs.Bits.{bit, Lowest}
+use Rattle.bits.specs.Laws.{lt-or-ge, bit-or, bit-number, number-high}
 use Rattle.bits.specs.Truth.{truth}
 use Rattle.blocks.specs.Words.{byteAt, isBackslash, oddBefore, realQuote, oddQuotes, inString, opensAt, closesAt, blockSize, quotesWord, stringsWord, openingWord, closingWord, insideAfter, oddAfter}
 
@@ -74,6 +76,39 @@ module _ (s : List ℕ) (inside odd : Bool) (i : ℕ) (h : blockSize s ≤ i) wh
   pub closing-past : bit i (closingWord inside odd s) ≡ false
   unfolding closingWord
   closing-past = number-high (blockSize s) i (closesAt inside odd s) h
+
+-- ---- the next bracket is the lowest bit that is on
+
+or-parts : (a b : Bool) → (a || b) ≡ false → (a ≡ false) × (b ≡ false)
+or-parts true b e = (e, cc)
+or-parts false b e = (refl, e)
+
+module _ (s : List ℕ) (inside odd : Bool) (i : ℕ) (low : Lowest 64 (bitOr (openingWord inside odd s) (closingWord inside odd s)) i) where
+  bracket : ℕ → Bool
+  bracket j = opensAt inside odd s j || closesAt inside odd s j
+
+  bracket-bit : (j : ℕ) → j < blockSize s → bit j (bitOr (openingWord inside odd s) (closingWord inside odd s)) ≡ bracket j
+  unfolding bracket
+  bracket-bit j h = bit-or j (openingWord inside odd s) (closingWord inside odd s)
+      ∙ ap₂ (λ (x y : Bool). x || y) (opening-bit s inside odd j h) (closing-bit s inside odd j h)
+
+  pub next-inside : i < 64 → i < blockSize s
+  next-inside h = ⊎-elim (λ (l : i < blockSize s). l)
+      (λ (l : blockSize s ≤ i).
+      let none : bit i (bitOr (openingWord inside odd s) (closingWord inside odd s)) ≡ false =
+      bit-or i (openingWord inside odd s) (closingWord inside odd s)
+      ∙ ap₂ (λ (x y : Bool). x || y) (opening-past s inside odd i l) (closing-past s inside odd i l) in
+      let clash : true ≡ false = sym (low .is-on h) ∙ none in
+      let z : _≡_ {A = ℕ} 0 1 = cc in absurd (omega arith))
+      (lt-or-ge i (blockSize s))
+
+  pub next-bracket : i < 64 → (opensAt inside odd s i || closesAt inside odd s i) ≡ true
+  unfolding bracket
+  next-bracket h = sym (bracket-bit i (next-inside h)) ∙ low .is-on h
+
+  pub none-before : (j : ℕ) → j < blockSize s → j < i → (opensAt inside odd s j ≡ false) × (closesAt inside odd s j ≡ false)
+  unfolding bracket
+  none-before j h l = or-parts (opensAt inside odd s j) (closesAt inside odd s j) (sym (bracket-bit j h) ∙ low .none-below j l)
 
 -- ---- two records that agree before place n
 

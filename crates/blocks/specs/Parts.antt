@@ -64,7 +64,7 @@ pub record Block (s d : List ℕ) : Type 0 where
   pub long : 64 ≤ length d
   pub like : (i : ℕ) → i < 64 → byteAt d i ≡ byteAt s i
 
--- an odd run of backslashes ends the block of at most n bytes
+-- an odd run of backslashes ends the block of a part of n bytes
 pub record OddAtEnd (backslashes escaped n : ℕ) (r : Bool) : Type 0 where
   pub short : n < 64 → r ≡ bit n escaped
   pub full : 64 ≤ n → r ≡ (bit 63 backslashes && not (bit 63 escaped))

@@ -38,20 +38,29 @@ struct FullWords {
     escaped: u64,
 }
 
+// The bytes of a full block.
 const BLOCK: usize = 64;
+
+// The last place of a full block.
+const LAST: usize = 63;
 
 const QUOTE: u8 = 34;
 
 const BACKSLASH: u8 = 92;
 
+// The opening brace.
 const OPENING: u8 = 123;
 
+// The closing brace.
 const CLOSING: u8 = 125;
-// The bit by which a brace differs from a square bracket.
+
+// The bit that makes a square bracket the brace of its kind.
 const BRACE: u8 = 32;
 
+// Every bit on.
 const ALL: u64 = 0xffffffffffffffff;
 
+// Every even bit on.
 const EVEN: u64 = 0x5555555555555555;
 
 // The bits under the mask change places with those `k` places up.
@@ -63,15 +72,13 @@ fn swap(x: u64, k: u32, mask: u64) -> u64
     x ^ moved ^ (moved << k)
 }
 
-// Eight rows of eight bits turned into columns.
+// Eight rows of eight bits turned into columns: single bits change places, then pairs, then fours.
 fn transpose(x: u64) -> u64
     ensures { λ r. ⌜ ((i : ℕ) → i < 64 → bit i r ≡ bit (8 * (i % 8) + i / 8) x) ⌝ }
 {
-    swap(
-        swap(swap(x, 7, 0x00aa00aa00aa00aa), 14, 0x0000cccc0000cccc),
-        28,
-        0x00000000f0f0f0f0,
-    )
+    let singles = swap(x, 7, 0x00aa00aa00aa00aa);
+    let pairs = swap(singles, 14, 0x0000cccc0000cccc);
+    swap(pairs, 28, 0x00000000f0f0f0f0)
 }
 
 // Bit i is on where the bits 0 to i of x are odd in number.
@@ -97,8 +104,8 @@ fn escaped(backslashes: u64, odd: bool) -> u64
     sum ^ EVEN ^ (backslashes | first)
 }
 
-// 64 flags to a word.
-fn word(flags: &[u8; 64]) -> u64
+// 64 flags, each 0 or 1, to a word: bit i is flag i.
+fn word(flags: &[u8; BLOCK]) -> u64
     requires { ⌜ ((i : ℕ) → byteAt (now flags) i < 2) ⌝ }
     ensures { λ r. ⌜ ((i : ℕ) → i < 64 → bit i r ≡ on (byteAt (now (flags .entry)) i)) ⌝ }
 {
@@ -112,7 +119,7 @@ fn word(flags: &[u8; 64]) -> u64
 }
 
 // Whether every flag is down.
-fn all_down(flags: &[u8; 64]) -> bool
+fn all_down(flags: &[u8; BLOCK]) -> bool
     ensures { λ r. ⌜ (r ≡ true → (i : ℕ) → i < 64 → byteAt (now (flags .entry)) i ≡ 0) ⌝ }
 {
     let mut any: u8 = 0;
@@ -125,7 +132,7 @@ fn all_down(flags: &[u8; 64]) -> bool
 }
 
 // 64 flags to a word, at once where none is up.
-fn sparse_word(flags: &[u8; 64]) -> u64
+fn sparse_word(flags: &[u8; BLOCK]) -> u64
     requires { ⌜ ((i : ℕ) → byteAt (now flags) i < 2) ⌝ }
     ensures { λ r. ⌜ ((i : ℕ) → i < 64 → bit i r ≡ on (byteAt (now (flags .entry)) i)) ⌝ }
 {
@@ -140,10 +147,10 @@ fn classify(s: &[u8]) -> Classes
     requires { ⌜ 64 ≤ length (now s) ⌝ }
     ensures { λ r. ⌜ Classified (now (s .entry)) (r .quotes) (r .backslashes) (r .opening) (r .closing) ⌝ }
 {
-    let mut quotes: [u8; 64] = [0u8; 64];
-    let mut backslashes: [u8; 64] = [0u8; 64];
-    let mut opening: [u8; 64] = [0u8; 64];
-    let mut closing: [u8; 64] = [0u8; 64];
+    let mut quotes: [u8; BLOCK] = [0u8; BLOCK];
+    let mut backslashes: [u8; BLOCK] = [0u8; BLOCK];
+    let mut opening: [u8; BLOCK] = [0u8; BLOCK];
+    let mut closing: [u8; BLOCK] = [0u8; BLOCK];
     let mut i: usize = 0;
     while i < BLOCK {
         let b = s[i];
@@ -168,7 +175,7 @@ fn spread(b: bool) -> u64
     if b { ALL } else { 0 }
 }
 
-// Sorts the first 64 bytes.
+// Sorts the first 64 bytes: quotes that no odd run escapes, the parity of these, and brackets outside of it.
 fn sort_full(s: &[u8], inside: bool, odd: bool) -> FullWords
     requires { ⌜ 64 ≤ length (now s) ⌝ }
     ensures { λ r. ⌜ Whole (now (s .entry)) inside odd (r .quotes) (r .strings) (r .opening) (r .closing) (r .backslashes) (r .escaped) ⌝ }
@@ -188,11 +195,11 @@ fn sort_full(s: &[u8], inside: bool, odd: bool) -> FullWords
     }
 }
 
-// The bytes of a part shorter than a block, with zeros behind them.
-fn padded(rest: &[u8]) -> [u8; 64]
+// The bytes of a part shorter than a block, with zeros behind them; of a longer part nothing but zeros.
+fn padded(rest: &[u8]) -> [u8; BLOCK]
     ensures { λ r. ⌜ Padded (now (rest .entry)) r ⌝ }
 {
-    let mut block: [u8; 64] = [0u8; 64];
+    let mut block: [u8; BLOCK] = [0u8; BLOCK];
     if rest.len() >= BLOCK {
         return block;
     }
@@ -205,14 +212,14 @@ fn padded(rest: &[u8]) -> [u8; 64]
 }
 
 // The part itself if it has a block's bytes, else the padded ones.
-fn block_of<'a>(rest: &'a [u8], pad: &'a [u8; 64]) -> &'a [u8]
+fn block_of<'a>(rest: &'a [u8], pad: &'a [u8; BLOCK]) -> &'a [u8]
     requires { ⌜ Padded (now rest) (now pad) ⌝ }
     ensures { λ r. ⌜ Block (now (rest .entry)) (now r) ⌝ }
 {
     if rest.len() >= BLOCK { rest } else { pad }
 }
 
-// A bit for each byte of a block of at most n bytes.
+// A bit for each byte of the block of a part of n bytes.
 fn size_mask(n: usize) -> u64
     ensures { λ r. ⌜ r ≡ 2 ^ min n 64 - 1 ⌝ }
 {
@@ -222,17 +229,18 @@ fn size_mask(n: usize) -> u64
     (1u64 << n) - 1
 }
 
-// Whether an odd run of backslashes ends the block of at most n bytes.
+// Whether an odd run of backslashes ends the block of a part of n bytes.
 fn odd_at_end(backslashes: u64, escaped: u64, n: usize) -> bool
     ensures { λ r. ⌜ OddAtEnd backslashes escaped n r ⌝ }
 {
     if n >= BLOCK {
-        return has(backslashes & (escaped ^ ALL), 63);
+        return has(backslashes & (escaped ^ ALL), LAST);
     }
     has(escaped, n)
 }
 
-// Sorts the block at the front of the rest of a record: words one to four, and the two facts for the next block.
+// Sorts the block at the front of the rest of a record, for all bytes: words one to four, and the two facts for the next block.
+// An empty rest gives words of 0 and both facts back.
 pub fn sort_block(rest: &[u8], inside: bool, odd: bool) -> Words
     ensures { λ r. ⌜ Sorted (now (rest .entry)) inside odd r ⌝ }
 {
@@ -245,7 +253,7 @@ pub fn sort_block(rest: &[u8], inside: bool, odd: bool) -> Words
         strings: w.strings & mask,
         opening: w.opening & mask,
         closing: w.closing & mask,
-        inside: has(w.strings, 63),
+        inside: has(w.strings, LAST),
         odd: odd_at_end(w.backslashes, w.escaped, rest.len()),
     }
 }

@@ -1,14 +1,14 @@
 -- What a scan answers at a place: at the end, at a wrong byte, and after one byte more.
 -- Each follows from one step of the definition. Assumes nothing.
-use mathlib.Core.Path.{_≡_, refl, ap, sym, subst, _∙_}
+use mathlib.Core.Path.{_≡_, refl, ap, sym, _∙_}
 use mathlib.Core.List.{List, [], _∷_}
 use mathlib.Core.Bool.{Bool, true, false}
-use Prim.Native.Nat.{ℕ, zero, suc, _+_, _-_, _≤_, _<_}
+use Prim.Native.Nat.{ℕ, suc, _+_, _-_, _≤_, _<_}
 use native.Mathlib.Numerals.{add-one}
 use native.Mathlib.Omega.{arith}
 use lib.ListN.{length, getD, drop, drop-of-length-le}
 use lib.Seq.{drop-cons}
-use Rattle.encoding.specs.CodePoint.{Reading, whole, wrong, short, later, due, isWhole, extent, Scanned}
+use Rattle.encoding.specs.CodePoint.{Reading, whole, wrong, short, later, due, isWhole, Scanned}
 use Rattle.encoding.specs.CodePointLaws.{is-whole-later, extent-later}
 use Rattle.encoding.specs.Utf8Steps.{due-on, due-under, due-over}
 
@@ -50,6 +50,9 @@ module _ {s : List ℕ} {i : ℕ} {read : List ℕ → Reading} where
 count : (n : ℕ) → 0 < n → n ≡ suc (n - 1)
 count n h = omega arith
 
+counted : (lo hi n : ℕ) → 0 < n → (t : List ℕ) → due lo hi n t ≡ due lo hi (suc (n - 1)) t
+counted lo hi n h t = ap (λ (m : ℕ). due lo hi m t) (count n h)
+
 -- the bytes that are due
 module _ (lo hi n : ℕ) {s : List ℕ} {i : ℕ} where
   pub due-done : n ≤ 0 → Scanned (due lo hi n) s i true i
@@ -63,11 +66,12 @@ module _ (lo hi n : ℕ) {s : List ℕ} {i : ℕ} where
 
     module _ (h : i < length s) where
       pub due-low : getD s i 0 < lo → Scanned (due lo hi n) s i false i
-      due-low l = at-wrong h (λ t. subst (λ (m : ℕ). due lo hi m (getD s i 0 ∷ t) ≡ wrong 0) (sym (count n some)) (due-under lo hi (n - 1) (getD s i 0) t l))
+      due-low l = at-wrong h (λ t. counted lo hi n some (getD s i 0 ∷ t) ∙ due-under lo hi (n - 1) (getD s i 0) t l)
 
       pub due-high : hi < getD s i 0 → Scanned (due lo hi n) s i false i
-      due-high u = at-wrong h (λ t. subst (λ (m : ℕ). due lo hi m (getD s i 0 ∷ t) ≡ wrong 0) (sym (count n some)) (due-over lo hi (n - 1) (getD s i 0) t u))
+      due-high u = at-wrong h (λ t. counted lo hi n some (getD s i 0 ∷ t) ∙ due-over lo hi (n - 1) (getD s i 0) t u)
 
       pub due-next :
-          lo ≤ getD s i 0 → getD s i 0 ≤ hi → {ok : Bool} {at : ℕ} → Scanned (due 0x80 0xBF (n - 1)) s (i + 1) ok at → Scanned (due lo hi n) s i ok at
-      due-next l u a = one-on h (λ t. ap (λ (m : ℕ). due lo hi m (getD s i 0 ∷ t)) (count n some) ∙ due-on lo hi (n - 1) (getD s i 0) t l u) a
+          lo ≤ getD s i 0 → getD s i 0 ≤ hi → {ok : Bool} {at : ℕ} → Scanned (due 0x80 0xBF (n - 1)) s (i + 1) ok at →
+          Scanned (due lo hi n) s i ok at
+      due-next l u a = one-on h (λ t. counted lo hi n some (getD s i 0 ∷ t) ∙ due-on lo hi (n - 1) (getD s i 0) t l u) a

@@ -2,7 +2,7 @@
 -- begin with one.
 use mathlib.Core.Path.{_≡_, refl, ap, sym, subst, _∙_}
 use mathlib.Core.List.{List, [], _∷_, _++_, append-nil}
-use mathlib.Core.Bool.{Bool, true, false}
+use mathlib.Core.Bool.{false}
 use mathlib.Core.Logic.{_↔_}
 use Prim.Native.Nat.{ℕ, zero, suc, _≤_, _<_}
 use native.Mathlib.Omega.{arith}
@@ -57,11 +57,13 @@ unfolding due
 tail-whole y s = due-on 0x80 0xBF 0 (y .byte) s (from-low y) (to-high y)
 
 next-whole :
-    {d e : Due} {x : Reading} → Next d e → (y : In (lowest d) (highest d)) (s : List ℕ) → dueAt e s ≡ x → dueAt d (y .byte ∷ s) ≡ later x
+    {d e : Due} {x : Reading} → Next d e → (y : In (lowest d) (highest d)) (s : List ℕ) → dueAt e s ≡ x →
+    dueAt d (y .byte ∷ s) ≡ later x
 next-whole n y s r = next-reads n (y .byte) s (from-low y) (to-high y) ∙ ap later r
 
 first-whole :
-    {d : Due} {lo hi : ℕ} {x : Reading} (b : In lo hi) → First (b .byte) d → (s : List ℕ) → dueAt d s ≡ x → reading (b .byte ∷ s) ≡ later x
+    {d : Due} {lo hi : ℕ} {x : Reading} (b : In lo hi) → First (b .byte) d → (s : List ℕ) → dueAt d s ≡ x →
+    reading (b .byte ∷ s) ≡ later x
 first-whole b f s r = first-reading f s ∙ ap later r
 
 -- how many bytes a code point has
@@ -266,7 +268,9 @@ dead-at s k e a =
 pub dead-byte : (s : List ℕ) → isWhole (reading s) ≡ false → DeadPlace StartsWide s (extent s (reading s))
 dead-byte s e = record { within = reading-within s; before = alive-reads (reads s); dead = ends (reading s) refl e }
   where
-    ends : (x : Reading) → reading s ≡ x → isWhole x ≡ false → extent s x < length s → Alive StartsWide (take (suc (extent s x)) s) → ⊥
+    ends :
+        (x : Reading) → reading s ≡ x → isWhole x ≡ false → extent s x < length s →
+        Alive StartsWide (take (suc (extent s x)) s) → ⊥
     ends (whole n) r i h a = let z : _≡_ {A = ℕ} 0 1 = cc in omega arith
     ends (wrong k) r i h a = dead-at s k r a
     ends short r i h a = omega arith

@@ -1,7 +1,6 @@
 -- Worked examples: bytes and their classes, the edges of the rows of UTF-8.
 use mathlib.Core.Path.{_≡_, refl}
-use mathlib.Core.List.{List, [], _∷_}
-use Prim.Native.Nat.{ℕ}
+use mathlib.Core.List.{[], _∷_}
 use Rattle.encoding.specs.Class.{classOf}
 use Rattle.encoding.specs.CodePoint.{whole, wrong, short, reading}
 

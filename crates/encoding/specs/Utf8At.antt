@@ -1,5 +1,5 @@
 -- How a code point is read at a place of a text: what a scan's answer says, byte by byte and against the grammar.
-use mathlib.Core.Path.{_≡_, refl, ap, sym, subst, _∙_}
+use mathlib.Core.Path.{_≡_, refl, ap, sym, _∙_}
 use mathlib.Core.List.{List, [], _∷_}
 use mathlib.Core.Bool.{Bool, true, false}
 use Prim.Native.Nat.{ℕ, _+_, _-_, _≤_, _<_}
@@ -9,7 +9,7 @@ use lib.ListN.{length, getD, drop, length-drop}
 use lib.Seq.{getD-drop, drop-drop}
 use Rattle.encoding.specs.Utf8.{Wide, putWide}
 use Rattle.encoding.specs.Prefix.{DeadPlace}
-use Rattle.encoding.specs.CodePoint.{Reading, whole, wrong, short, later, reading, isWhole, extent, StartsWide, Scanned}
+use Rattle.encoding.specs.CodePoint.{Reading, whole, wrong, short, reading, isWhole, extent, StartsWide, Scanned}
 use Rattle.encoding.specs.CodePointLaws.{is-whole-later, extent-later, reading-within, whole-wide, dead-byte}
 use Rattle.encoding.specs.Utf8Steps.{Due, one, lowest, highest, First, Next, Rest, Reads, reads}
 use Rattle.encoding.specs.Utf8Steps as Steps
@@ -85,7 +85,9 @@ module _ {s : List ℕ} {i : ℕ} {ok : Bool} {at : ℕ} (r : Scanned reading s 
   pub scanned-whole : ok ≡ true → (p : Wide) × (putWide p (drop at s) ≡ drop i s)
   scanned-whole e = go (reading (drop i s)) refl (sym (r .ok-whole) ∙ e) (r .at-extent)
     where
-      go : (x : Reading) → reading (drop i s) ≡ x → isWhole x ≡ true → at ≡ i + extent (drop i s) x → (p : Wide) × (putWide p (drop at s) ≡ drop i s)
+      go :
+          (x : Reading) → reading (drop i s) ≡ x → isWhole x ≡ true → at ≡ i + extent (drop i s) x →
+          (p : Wide) × (putWide p (drop at s) ≡ drop i s)
       go (whole n) f w q =
           let p = whole-wide (drop i s) n f in
           (p .0, ap (λ (m : ℕ). putWide (p .0) (drop m s)) q ∙ ap (putWide (p .0)) (sym (drop-drop n i s)) ∙ p .1)

@@ -1,5 +1,5 @@
 -- UTF-8 byte by byte: what is due after a first byte, and how a code point is read by it.
-use mathlib.Core.Path.{_≡_, refl, ap, sym, subst, _∙_}
+use mathlib.Core.Path.{_≡_, refl, _∙_}
 use mathlib.Core.List.{List, [], _∷_}
 use mathlib.Core.Bool.{Bool, true, false}
 use mathlib.Core.Logic.{_⊎_, inl, inr}
@@ -177,7 +177,9 @@ next-reads f0-two b s l h = due-on 0x90 0xBF 2 b s l h
 next-reads f4-two b s l h = due-on 0x80 0x8F 2 b s l h
 
 -- a byte that is due: below, above, or within the bounds
-split : (d : Due) (b : ℕ) (s : List ℕ) → (lowest d ≤ b → b ≤ highest d → Rest d (b ∷ s) (dueAt d (b ∷ s))) → Rest d (b ∷ s) (dueAt d (b ∷ s))
+split :
+    (d : Due) (b : ℕ) (s : List ℕ) → (lowest d ≤ b → b ≤ highest d → Rest d (b ∷ s) (dueAt d (b ∷ s))) →
+    Rest d (b ∷ s) (dueAt d (b ∷ s))
 split d b s inner = go (leb (lowest d) b) refl (leb b (highest d)) refl
   where
     go : (x : Bool) → leb (lowest d) b ≡ x → (y : Bool) → leb b (highest d) ≡ y → Rest d (b ∷ s) (dueAt d (b ∷ s))

@@ -9,11 +9,12 @@ ghost use Rattle.encoding.specs.RowTable.{RowTable, RowOf};
 
 mod tables;
 
-// How many rows there are, how many numbers a row has, and the places of these in a row.
+// How many rows of UTF-8 there are, and how many numbers each has in the table.
 const ROW_COUNT: usize = 9;
 
 const ROW_SIZE: usize = 5;
 
+// The places of a row's numbers: the bounds of the first byte, those of the second, and the number of bytes.
 const LOW: usize = 0;
 
 const HIGH: usize = 1;

@@ -57,9 +57,12 @@ pub record Ahead : Type 0 where
   pub this : Step
   pub later : List Placed
 
--- a name of these bytes so far
+-- a step with this selector so far, and a name of these bytes
+abbrev pub taking : Selector → List Placed → Ahead
+taking x l = record { this = record { deep = false; selector = x }; later = l }
+
 abbrev pub named : List ℕ → List Placed → Ahead
-named w l = record { this = record { deep = false; selector = S.name w }; later = l }
+named w l = taking (S.name w) l
 
 abbrev pub letters : Selector → List ℕ
 letters (S.name w) = w

@@ -1,9 +1,9 @@
 -- Laws of the machine's tables: where a table leads all bytes of a range, by computing; and what holds of every row. Assumes nothing.
 use mathlib.Core.Path.{_≡_, refl, _∙_}
-use mathlib.Core.List.{List, [], _∷_}
+use mathlib.Core.List.{List, [], _∷_, _++_}
 use mathlib.Core.Bool.{Bool, true, false, _&&_, _||_}
 use mathlib.Core.Option.{Option, some, none}
-use Prim.Native.Nat.{ℕ, _≤_}
+use Prim.Native.Nat.{ℕ, _≤_, _<_}
 use native.Mathlib.Omega.{arith}
 use lib.Dec.{T, leb, ltb, leb→le, le→leb, ltb→lt}
 use Rattle.encoding.specs.Bytes.{In}
@@ -96,6 +96,31 @@ lands {lo} {hi} {b} l h (r ∷ rs) m e = go (covers r lo hi) refl (parted r lo h
     go true p y q f again = hit r rs b (covered l h r (so p)) ∙ cc
     go false p true q f again = miss r rs b (passed l h r (so q)) ∙ again f
     go false p false q f again = cc
+
+-- rows that have no byte of the range are passed over
+unfoldable pub allParted : ℕ → ℕ → List Row → Bool
+allParted lo hi [] = true
+allParted lo hi (r ∷ rs) = parted r lo hi && allParted lo hi rs
+
+pub passes : {lo hi b : ℕ} → lo ≤ b → b ≤ hi → (rs us : List Row) → T (allParted lo hi rs) → pick (rs ++ us) b ≡ pick us b
+unfolding allParted
+passes l h [] us t = refl
+passes {lo} {hi} {b} l h (r ∷ rs) us t =
+    miss r (rs ++ us) b (passed l h r (and-left (parted r lo hi) (allParted lo hi rs) t)) ∙
+    passes l h rs us (and-right (parted r lo hi) (allParted lo hi rs) t)
+
+-- a byte above every row is dead
+unfoldable pub allUnder : ℕ → List Row → Bool
+allUnder lo [] = true
+allUnder lo (r ∷ rs) = ltb (r .high) lo && allUnder lo rs
+
+pub dies-above : {lo b : ℕ} → lo ≤ b → (rs : List Row) → T (allUnder lo rs) → pick rs b ≡ dead
+unfolding allUnder pick
+dies-above l [] t = refl
+dies-above {lo} {b} l (r ∷ rs) t =
+    let h : r .high < lo = ltb→lt (r .high) lo (and-left (ltb (r .high) lo) (allUnder lo rs) t) in
+    miss r rs b (not-T (takes r b) (λ q. omega (arith, taken-between r b q))) ∙
+    dies-above l rs (and-right (ltb (r .high) lo) (allUnder lo rs) t)
 
 -- a step by a byte of a range, by computing
 pub leads : (c : Control) {lo hi b : ℕ} → lo ≤ b → b ≤ hi → (m : State) → landing lo hi (rows c) ≡ some m → step (at c) b ≡ m

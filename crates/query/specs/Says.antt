@@ -98,11 +98,11 @@ querySays s = go (leb (length s) maxQueryBytes) refl
     go false f = long (nleb→lt (length s) maxQueryBytes (rw f tt))
 
 -- the verdict of a query that is not too long
-short-enough : (s : List ℕ) → length s ≤ maxQueryBytes → queryVerdict s ≡ judged (reading root 0 s)
+pub short-enough : (s : List ℕ) → length s ≤ maxQueryBytes → queryVerdict s ≡ judged (reading root 0 s)
 unfolding queryVerdict
 short-enough s l = rw (of-T (leb (length s) maxQueryBytes) (le→leb _ _ l), queryVerdict)
 
-too-long : (s : List ℕ) → maxQueryBytes < length s → queryVerdict s ≡ refused 1 maxQueryBytes
+pub too-long : (s : List ℕ) → maxQueryBytes < length s → queryVerdict s ≡ refused 1 maxQueryBytes
 unfolding queryVerdict
 too-long s h = rw (not-T (leb (length s) maxQueryBytes) (λ x. omega (arith, leb→le (length s) maxQueryBytes x)), queryVerdict)
 
@@ -110,11 +110,11 @@ verdict-text : (s : List ℕ) (t : Query) → length s ≤ maxQueryBytes → tex
 unfolding judged
 verdict-text s t l e = short-enough s l ∙ ap (λ (u : List ℕ). judged (reading root 0 u)) (sym e) ∙ ap judged (reads-text t)
 
-few : (l : List Placed) → length l ≤ maxSteps → counted l ≡ Verdict.taken
+pub few : (l : List Placed) → length l ≤ maxSteps → counted l ≡ Verdict.taken
 unfolding counted
 few l h = rw (of-T (leb (length l) maxSteps) (le→leb _ _ h), counted)
 
-too-many : (l : List Placed) → maxSteps < length l → counted l ≡ refused 3 (placeOf maxSteps l)
+pub too-many : (l : List Placed) → maxSteps < length l → counted l ≡ refused 3 (placeOf maxSteps l)
 unfolding counted
 too-many l h = rw (not-T (leb (length l) maxSteps) (λ x. omega (arith, leb→le (length l) maxSteps x)), counted)
 

@@ -1,7 +1,7 @@
 -- What is read of a query's text: the steps of its tree, each at its place. Assumes nothing.
 use mathlib.Core.Path.{_≡_, refl, ap, _∙_}
 use mathlib.Core.List.{List, [], _∷_, _++_}
-use mathlib.Core.Bool.{Bool, false}
+use mathlib.Core.Bool.{Bool}
 use Prim.Native.Nat.{ℕ, suc, _+_}
 use native.Mathlib.Omega.{arith}
 use lib.ListN.{length}
@@ -14,13 +14,9 @@ use Rattle.query.specs.Steps.{Selector}
 use Rattle.query.specs.Machine as M
 use Rattle.query.specs.Machine.{short, quoted, root, done, gap, opened, closing, inside, at, step}
 use Rattle.query.specs.Read as R
-use Rattle.query.specs.Read.{begin, deepen, Placed, Ahead, named, Reading, good, note, reading}
+use Rattle.query.specs.Read.{begin, deepen, Placed, taking, named, Reading, good, note, reading}
 use Rattle.query.specs.Spell.{turn, moved, kept, alike, done-gap, spell, spell-named, Spells, spells-append, spells-first, spells-laters, spells-chars, reads-blanks, blank-gap, blank-opened, blank-closing}
 use Rattle.query.specs.Append.{append-first, append-laters, append-chars, append-inner, append-dots, append-deep, length-blanks, size}
-
--- a step of this kind is being read
-abbrev pub taking : Selector → List Placed → Ahead
-taking x l = record { this = record { deep = false; selector = x }; later = l }
 
 -- steps with this one before them
 abbrev pub before : ℕ → Bool → Selector → List Placed → List Placed
@@ -83,12 +79,12 @@ reads-short d (G.shorthand x cs) n t l e =
     ap (reading (M.dotted d) n) (shorthand-append x cs (putQuery t [])) ∙ spells-shorthand d x cs n (putQuery t []) ∙
     ap (spell (putFirst x (putLaters cs []))) (over t (n + length (putFirst x (putLaters cs []))) ∙ e) ∙ spell-named (putFirst x (putLaters cs [])) l
 
-quote-opens : (q : Quote) → step (at opened) (quoteByte q) ≡ at (inside (quoted q))
+pub quote-opens : (q : Quote) → step (at opened) (quoteByte q) ≡ at (inside (quoted q))
 unfolding step
 quote-opens G.single = refl
 quote-opens G.double = refl
 
-quote-closes : (q : Quote) → step (at (inside (quoted q))) (quoteByte q) ≡ at closing
+pub quote-closes : (q : Quote) → step (at (inside (quoted q))) (quoteByte q) ≡ at closing
 unfolding step
 quote-closes G.single = refl
 quote-closes G.double = refl

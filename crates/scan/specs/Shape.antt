@@ -29,6 +29,12 @@ unfolding isBlank
 solid [] = true
 solid (b ∷ s) = not (isBlank b)
 
+-- a byte stands first that closes no container
+unfoldable pub starts : List ℕ → Bool
+unfolding classOf
+starts [] = false
+starts (b ∷ s) = not (eqb (classOf b) 2)
+
 -- a word that stands before this text ends there
 unfoldable pub stopped : List ℕ → Bool
 unfolding endsWord

@@ -16,7 +16,7 @@ use Rattle.encoding.specs.Utf8 as U
 use Rattle.encoding.specs.Utf8.{Wide, putWide}
 use Rattle.json.specs.Grammar as G
 use Rattle.json.specs.Grammar.{Literal, Minus, Int, Frac, Exp, ExpSign, Escape, escapeByte, Hex, hexByte, Char, Kind, Key, Value, Items, More, putLiteral, putMinus, putInt, putFrac, putExp, putExpSign, putChar, putChars, putString, putKey, putValue, putItems, putMore}
-use Rattle.scan.specs.Shape.{isBlank, endsWord, solid, stopped, wordy, Piece, plain, escaped, putPieces}
+use Rattle.scan.specs.Shape.{isBlank, endsWord, solid, starts, stopped, wordy, Piece, plain, escaped, putPieces}
 
 of-T : (b : Bool) → T b → b ≡ true
 of-T true t = refl
@@ -56,6 +56,28 @@ pub solid-key : (k : Kind) (key : Key k) (s : List ℕ) → solid s ≡ true →
 unfolding putKey putString solid isBlank classOf
 solid-key G.array key s h = h
 solid-key G.object key s h = refl
+
+-- no closing bracket begins a value or a key
+int-starts : (n : Int) (s : List ℕ) → starts (putInt n s) ≡ true
+unfolding putInt starts passes classOf
+int-starts G.nought s = refl
+int-starts (G.whole x ds) s = in-range (λ b. not (eqb (classOf b) 2)) tt x
+
+pub starts-value : (v : Value) (s : List ℕ) → starts (putValue v s) ≡ true
+unfolding putValue putLiteral putMinus putString starts classOf
+starts-value (G.literal G.falseName) s = refl
+starts-value (G.literal G.nullName) s = refl
+starts-value (G.literal G.trueName) s = refl
+starts-value (G.number G.unsigned n f e) s = int-starts n (putFrac f (putExp e s))
+starts-value (G.number G.minus n f e) s = refl
+starts-value (G.string cs) s = refl
+starts-value (G.container G.array is) s = refl
+starts-value (G.container G.object is) s = refl
+
+pub starts-key : (k : Kind) (key : Key k) (s : List ℕ) → starts s ≡ true → starts (putKey k key s) ≡ true
+unfolding putKey putString starts classOf
+starts-key G.array key s h = h
+starts-key G.object key s h = refl
 
 pub solid-colon : (s : List ℕ) → solid (0x3A ∷ s) ≡ true
 unfolding solid isBlank classOf

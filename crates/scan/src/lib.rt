@@ -1,1 +1,137 @@
-// Scanners over a checked record.
+// Scanners over a checked record: blanks, strings, words, and what stands before an item's value.
+ghost use mathlib.Core.Path.{_≡_};
+ghost use Prim.Native.Nat.{_≤_};
+ghost use lib.ListN.{length};
+ghost use Rattle.encoding.specs.ClassTable.{ClassTable};
+ghost use Rattle.swar.specs.Run.{Run};
+ghost use Rattle.scan.specs.Shape.{endsWord};
+ghost use Rattle.scan.specs.Scans.{isWordByte, EndsBlanks, EndsString, EndsScalar, EntersItem};
+
+const QUOTE: u8 = 0x22;
+
+// The first byte of an item's value, and where its name's bytes are; both ends are 0 in an array.
+pub struct Entered {
+    pub value: usize,
+    pub from: usize,
+    pub to: usize,
+}
+
+// Whether `b` ends a literal or a number.
+fn ends_word(classes: &[u8; 256], b: u8) -> bool
+    requires { ⌜ ClassTable (now classes) ⌝ }
+    ensures { λ r. ⌜ r ≡ endsWord b ⌝ }
+{
+    let c = encoding::class(classes, b);
+    if c == 2 {
+        return true;
+    }
+    if c == 4 {
+        return true;
+    }
+    c == 7
+}
+
+// The place after the blanks at `at`.
+pub fn skip_blanks(s: &[u8], at: usize) -> usize
+    requires { ⌜ at ≤ length (now s) ⌝ }
+    ensures { λ r. ⌜ EndsBlanks (now (s .entry)) at r ⌝ }
+{
+    swar::blank_run(s, at)
+}
+
+// The place after the closing quote of the string whose opening quote stands just before `at`.
+pub fn string_end(s: &[u8], at: usize) -> usize
+    requires { ⌜ at ≤ length (now s) ⌝ }
+    ensures { λ r. ⌜ EndsString (now (s .entry)) at r ⌝ }
+{
+    let mut i = at;
+    loop {
+        let q = swar::string_run(s, i);
+        if q >= s.len() {
+            return q;
+        }
+        if s[q] == QUOTE {
+            return q + 1;
+        }
+        if s.len() - q < 2 {
+            return q + 1;
+        }
+        i = q + 2;
+    }
+}
+
+// The end of the bytes from `at` on that do not end a literal or a number.
+fn word_run(classes: &[u8; 256], s: &[u8], at: usize) -> usize
+    requires { ⌜ at ≤ length (now s) ⌝ }
+    requires { ⌜ ClassTable (now classes) ⌝ }
+    ensures { λ r. ⌜ Run isWordByte (now (s .entry)) at r ⌝ }
+{
+    let mut i = at;
+    while i < s.len() {
+        if ends_word(classes, s[i]) {
+            return i;
+        }
+        i += 1;
+    }
+    i
+}
+
+// The place after the scalar at `at`.
+pub fn scalar_end(classes: &[u8; 256], s: &[u8], at: usize) -> usize
+    requires { ⌜ at ≤ length (now s) ⌝ }
+    requires { ⌜ ClassTable (now classes) ⌝ }
+    ensures { λ r. ⌜ EndsScalar (now (s .entry)) at r ⌝ }
+{
+    if at >= s.len() {
+        return at;
+    }
+    if s[at] == QUOTE {
+        return string_end(s, at + 1);
+    }
+    word_run(classes, s, at)
+}
+
+// Passes the blanks at `at` and, in an object, the name and its colon: the first byte of the item's value.
+pub fn enter_item(s: &[u8], at: usize, object: bool) -> Entered
+    requires { ⌜ at ≤ length (now s) ⌝ }
+    ensures { λ r. ⌜ EntersItem (now (s .entry)) at object (r .value) (r .from) (r .to) ⌝ }
+{
+    let a = skip_blanks(s, at);
+    if !object {
+        return Entered {
+            value: a,
+            from: 0,
+            to: 0,
+        };
+    }
+    if a >= s.len() {
+        return Entered {
+            value: a,
+            from: 0,
+            to: 0,
+        };
+    }
+    let from = a + 1;
+    let end = string_end(s, from);
+    let colon = skip_blanks(s, end);
+    if colon >= s.len() {
+        return Entered {
+            value: colon,
+            from: 0,
+            to: 0,
+        };
+    }
+    if end <= from {
+        return Entered {
+            value: colon,
+            from: 0,
+            to: 0,
+        };
+    }
+    let value = skip_blanks(s, colon + 1);
+    Entered {
+        value,
+        from,
+        to: end - 1,
+    }
+}

@@ -1,0 +1,242 @@
+-- Past one block, by its words three and four. Counted: while fewer closing brackets stand in it than are open, the depth after it is a sum.
+-- Bracket by bracket: below the lowest bit that is left there is no bracket that is not counted. Assumes nothing.
+use mathlib.Core.Path.{_≡_, refl, sym, ap, ap₂, _∙_}
+use mathlib.Core.Bool.{Bool, true, false, xor, _&&_, _||_, false≢true}
+use mathlib.Core.Logic.{⊎-elim}
+use Prim.Native.Nat.{ℕ, zero, suc, _+_, _-_, _*_, _/_, _%_, _^_, _<_, _≤_}
+use native.Mathlib.Numerals.{add-one}
+use native.Mathlib.Omega.{arith}
+use lib.Bits.{bitXor, bitOr, xor-lt}
+use lib.Count.{ones, onesIn, ones-step}
+use lib.Dec.{leb}
+use borrow.Author.Tests.{le-leb, lt-leb}
+use Rattle.bits.specs.Bits.{on, bit, digit, number, Lowest}
+use Rattle.bits.specs.Laws.{lt-or-ge, bit-or, bit-xor, bit-shl, bit-zero, bit-high, shifted-is, digit-lt, number-is, bit-ext}
+use Rattle.bits.specs.Truth.{truth}
+use Rattle.leap.specs.Brackets.{afterPlace, depthAt}
+use Rattle.leap.specs.BracketLaws.{depth-quiet-to, depth-more, depth-less}
+use Rattle.leap.specs.Passing.{Cleared, Apart, Finds}
+
+-- ---- one bit less
+
+one-bit : (i j : ℕ) → j < 64 → bit j (1 * 2 ^ i % 2 ^ 64) ≡ (leb i j && bit (j - i) 1)
+one-bit i j h = bit-shl 64 i j 1 h ∙ shifted-is i (λ k. bit k 1) j
+
+its-bit : (i : ℕ) → i < 64 → bit i (1 * 2 ^ i % 2 ^ 64) ≡ true
+unfolding bit on
+its-bit i h =
+    let z : i - i ≡ 0 = omega arith in
+    one-bit i i h ∙ ap₂ (λ (x : Bool) (y : ℕ). x && bit y 1) (le-leb i i (omega arith)) z
+
+no-other : (i j : ℕ) → (j ≡ i → ⊥) → bit j (1 * 2 ^ i % 2 ^ 64) ≡ false
+no-other i j ne = ⊎-elim
+    (λ (l : j < 64). ⊎-elim
+    (λ (h : j < i). one-bit i j l ∙ ap (λ (x : Bool). x && bit (j - i) 1) (lt-leb i j h))
+    (λ (h : i ≤ j). one-bit i j l ∙ ap₂ (λ (x y : Bool). x && y) (le-leb i j h) (bit-high 1 (j - i) 1 (omega arith) (omega arith)))
+    (lt-or-ge j i))
+    (λ (l : 64 ≤ j). bit-high 64 j (1 * 2 ^ i % 2 ^ 64) (omega arith) l)
+    (lt-or-ge j 64)
+
+xor-false : (x : Bool) → xor x false ≡ x
+unfolding xor
+xor-false = truth 1 (λ x. xor x false) (λ x. x) tt
+
+pub cleared : (w i : ℕ) → w < 2 ^ 64 → i < 64 → bit i w ≡ true → Cleared w i (bitXor w (1 * 2 ^ i % 2 ^ 64))
+unfolding xor
+cleared w i f s t = record {
+  fits = xor-lt 64 w (1 * 2 ^ i % 2 ^ 64) f (omega arith);
+  off = bit-xor i w (1 * 2 ^ i % 2 ^ 64) ∙ ap₂ xor t (its-bit i s);
+  other = λ j ne. bit-xor j w (1 * 2 ^ i % 2 ^ 64) ∙ ap (xor (bit j w)) (no-other i j ne) ∙ xor-false (bit j w);
+}
+
+-- ---- bits counted
+
+-- how many of the first m places f holds at
+unfoldable tally : (ℕ → Bool) → ℕ → ℕ
+tally f zero = 0
+tally f (suc m) = digit (f 0) + tally (λ j. f (suc j)) m
+
+ones-number : (m : ℕ) (f : ℕ → Bool) → ones (number m f) ≡ tally f m
+unfolding number tally ones onesIn
+ones-number zero f = refl
+ones-number (suc m) f =
+    let w : ℕ = number m (λ i. f (suc i)) in
+    let a : (w * 2 + digit (f 0)) % 2 ≡ digit (f 0) = omega (arith, digit-lt (f 0)) in
+    let b : (w * 2 + digit (f 0)) / 2 ≡ w = omega (arith, digit-lt (f 0)) in
+    ones-step (w * 2 + digit (f 0)) ∙ ap₂ (λ (x y : ℕ). x + ones y) a b ∙ ap (λ (x : ℕ). digit (f 0) + x) (ones-number m (λ i. f (suc i)))
+
+ones-tally : (w : ℕ) → w < 2 ^ 64 → ones w ≡ tally (λ j. bit j w) 64
+ones-tally w h = ap ones (number-is 64 w (λ j. bit j w) h (λ i l. refl)) ∙ ones-number 64 (λ j. bit j w)
+
+tally-same : (f g : ℕ → Bool) → ((j : ℕ) → f j ≡ g j) → (m : ℕ) → tally f m ≡ tally g m
+unfolding tally
+tally-same f g h zero = refl
+tally-same f g h (suc m) = ap₂ (λ (x : Bool) (y : ℕ). digit x + y) (h 0) (tally-same (λ j. f (suc j)) (λ j. g (suc j)) (λ j. h (suc j)) m)
+
+tally-less : (f g : ℕ → Bool) (m i : ℕ) → i < m → f i ≡ false → g i ≡ true → ((j : ℕ) → (j ≡ i → ⊥) → f j ≡ g j) → tally f m < tally g m
+unfolding tally digit
+tally-less f g zero i h p q same = absurd (omega arith)
+tally-less f g (suc m) zero h p q same =
+    omega (arith, ap digit p, ap digit q, tally-same (λ j. f (suc j)) (λ j. g (suc j)) (λ j. same (suc j) (λ e. omega arith)) m)
+tally-less f g (suc m) (suc i) h p q same =
+    omega (arith, ap digit (same 0 (λ e. omega arith)), tally-less (λ j. f (suc j)) (λ j. g (suc j)) m i (omega arith) p q (λ j ne. same (suc j) (λ e. ne (omega arith))))
+
+-- with a bit less there are fewer
+ones-less : {w i r : ℕ} → w < 2 ^ 64 → i < 64 → bit i w ≡ true → Cleared w i r → ones r < ones w
+ones-less {w} {i} {r} fw l t c =
+    omega (arith, ones-tally w fw, ones-tally r (c .fits), tally-less (λ j. bit j r) (λ j. bit j w) 64 i l (c .off) t (c .other))
+
+-- the first place, and then the others
+depth-first : (f g : ℕ → Bool) (n m : ℕ) → depthAt f g n (suc m) ≡ depthAt (λ j. f (suc j)) (λ j. g (suc j)) (afterPlace (f 0) (g 0) n) m
+unfolding depthAt
+depth-first f g n zero = refl
+depth-first f g n (suc m) = ap (afterPlace (f (suc m)) (g (suc m))) (depth-first f g n m)
+
+-- fewer closing brackets than are open
+counted : (f g : ℕ → Bool) → ((j : ℕ) → f j ≡ true → g j ≡ true → ⊥) → (m n : ℕ) → tally g m < n → depthAt f g n m ≡ n + tally f m - tally g m
+unfolding tally depthAt digit afterPlace
+counted f g x zero n h = omega arith
+counted f g x (suc m) n h =
+    depth-first f g n m
+    ∙ step (f 0) (g 0) n (x 0) h (counted (λ j. f (suc j)) (λ j. g (suc j)) (λ j. x (suc j)) m)
+  where
+    step : (o c : Bool) (n : ℕ) → (o ≡ true → c ≡ true → ⊥) → digit c + tally (λ j. g (suc j)) m < n
+        → ((n : ℕ) → tally (λ j. g (suc j)) m < n → depthAt (λ j. f (suc j)) (λ j. g (suc j)) n m ≡ n + tally (λ j. f (suc j)) m - tally (λ j. g (suc j)) m)
+        → depthAt (λ j. f (suc j)) (λ j. g (suc j)) (afterPlace o c n) m ≡ n + (digit o + tally (λ j. f (suc j)) m) - (digit c + tally (λ j. g (suc j)) m)
+    step o c zero x h r = absurd (omega arith)
+    step true true (suc n) x h r = absurd (x refl refl)
+    step true false (suc n) x h r = r (suc (suc n)) (omega arith) ∙ omega arith
+    step false true (suc n) x h r = r n (omega arith) ∙ omega arith
+    step false false (suc n) x h r = r (suc n) (omega arith) ∙ omega arith
+
+pub passed-counted : {a b n opened closed : ℕ} → a < 2 ^ 64 → b < 2 ^ 64 → Apart a b → opened ≡ ones a → opened ≤ 64 → closed ≡ ones b → closed ≤ 64 → closed < n
+    → Finds a b n 64 (n + opened - closed)
+passed-counted {a} {b} {n} {opened} {closed} fa fb apart o ol c cl h =
+    let x : opened ≡ tally (λ j. bit j a) 64 = o ∙ ones-tally a fa in
+    let y : closed ≡ tally (λ j. bit j b) 64 = c ∙ ones-tally b fb in
+    record {
+      small = omega arith;
+      few = omega arith;
+      found = λ l. absurd (omega arith);
+      none = λ l. (omega arith, counted (λ j. bit j a) (λ j. bit j b) apart 64 n (omega arith) ∙ ap₂ (λ (u v : ℕ). n + u - v) (sym x) (sym y));
+    }
+
+-- ---- bracket by bracket
+
+-- every bracket before place `upto` is counted, `left` has the others, and `level` are open
+pub record Counting (a b n left level : ℕ) : Type 0 where
+  pub upto : ℕ
+  pub small : upto ≤ 64
+  pub few : level ≤ n + upto
+  pub some : 1 ≤ level
+  pub fits : left < 2 ^ 64
+  pub clear : (j : ℕ) → j < upto → bit j left ≡ false
+  pub rest : (j : ℕ) → upto ≤ j → bit j left ≡ (bit j a || bit j b)
+  pub level-is : depthAt (λ j. bit j a) (λ j. bit j b) n upto ≡ level
+
+neither : (x y : Bool) → (x || y) ≡ false → (x ≡ false) × (y ≡ false)
+neither true y e = absurd (false≢true (sym e))
+neither false y e = (refl, e)
+
+second : (x y : Bool) → (x || y) ≡ true → x ≡ false → y ≡ true
+second true y h e = absurd (false≢true (sym e))
+second false y h e = h
+
+pub counting-starts : {a b n : ℕ} → bitOr a b < 2 ^ 64 → 1 ≤ n → Counting a b n (bitOr a b) n
+unfolding depthAt
+counting-starts {a} {b} {n} f h = record {
+  upto = 0;
+  small = omega arith;
+  few = omega arith;
+  some = h;
+  fits = f;
+  clear = λ j l. absurd (omega arith);
+  rest = λ j l. bit-or j a b;
+  level-is = refl;
+}
+
+module _ {a b n left level : ℕ} (v : Counting a b n left level) where
+  -- no bracket stands from `upto` to a place up to which nothing is left
+  quiet : (i : ℕ) → v .upto ≤ i → ((j : ℕ) → j < i → bit j left ≡ false) → depthAt (λ j. bit j a) (λ j. bit j b) n i ≡ level
+  quiet i h none =
+      depth-quiet-to (λ j. bit j a) (λ j. bit j b) n (v .upto) i h (λ j l r. neither (bit j a) (bit j b) (sym (v .rest j l) ∙ none j r)) ∙ v .level-is
+
+  -- nothing is left
+  pub counting-none : left ≡ 0 → Finds a b n 64 level
+  counting-none z = record {
+    small = omega arith;
+    few = omega (arith, v .few, v .small);
+    found = λ l. absurd (omega arith);
+    none = λ l. (v .some, quiet 64 (v .small) (λ j r. ap (bit j) z ∙ bit-zero j));
+  }
+
+  module _ {i : ℕ} (some-left : left ≡ 0 → ⊥) (low : Lowest 64 left i) where
+    pub next-lt : i < 64
+    next-lt = ⊎-elim
+        (λ (l : i < 64). l)
+        (λ (l : 64 ≤ i). absurd (some-left (bit-ext 64 left 0 (v .fits) (omega arith) (λ j r. low .none-below j (omega arith) ∙ sym (bit-zero j)))))
+        (lt-or-ge i 64)
+
+    pub next-on : bit i left ≡ true
+    next-on = low .is-on next-lt
+
+    -- without it fewer bits are left
+    pub counting-falls : {rest : ℕ} → Cleared left i rest → ones rest < ones left
+    counting-falls c = ones-less (v .fits) next-lt next-on c
+
+    counted-before : v .upto ≤ i
+    counted-before = ⊎-elim (λ (l : i < v .upto). absurd (false≢true (sym (v .clear i l) ∙ next-on))) (λ (l : v .upto ≤ i). l) (lt-or-ge i (v .upto))
+
+    -- the depth before it, and which bracket it is
+    level-before : depthAt (λ j. bit j a) (λ j. bit j b) n i ≡ level
+    level-before = quiet i counted-before (low .none-below)
+
+    closes : bit i a ≡ false → bit i b ≡ true
+    closes h = second (bit i a) (bit i b) (sym (v .rest i counted-before) ∙ next-on) h
+
+    pub counting-found : bit i a ≡ false → level ≡ 1 → Finds a b n i 0
+    counting-found h z = record {
+      small = omega (arith, next-lt);
+      few = omega arith;
+      found = λ l. (
+        level-before ∙ z,
+        ap (depthAt (λ j. bit j a) (λ j. bit j b) n) (add-one i)
+            ∙ depth-less (λ j. bit j a) (λ j. bit j b) n i 0 h (closes h) (level-before ∙ z),
+      );
+      none = λ l. absurd (omega (arith, next-lt));
+    }
+
+    clear-on : {rest : ℕ} → Cleared left i rest → (j : ℕ) → j < suc i → bit j rest ≡ false
+    clear-on {rest} c j l = ⊎-elim
+        (λ (h : j < i). c .other j (λ e. omega arith) ∙ low .none-below j h)
+        (λ (h : i ≤ j). let z : j ≡ i = omega arith in ap (λ (k : ℕ). bit k rest) z ∙ c .off)
+        (lt-or-ge j i)
+
+    counting-on : {rest level′ : ℕ} → Cleared left i rest → 1 ≤ level′ → level′ ≤ level + 1
+        → depthAt (λ j. bit j a) (λ j. bit j b) n (suc i) ≡ level′ → Counting a b n rest level′
+    counting-on c p q d = record {
+      upto = suc i;
+      small = omega (arith, next-lt);
+      few = omega (arith, v .few, counted-before);
+      some = p;
+      fits = c .fits;
+      clear = clear-on c;
+      rest = λ j l. c .other j (λ e. omega arith) ∙ v .rest j (omega (arith, counted-before));
+      level-is = d;
+    }
+
+    pub counting-opens : {rest : ℕ} → Cleared left i rest → bit i a ≡ true → Counting a b n rest (level + 1)
+    counting-opens c h =
+        let z : level ≡ suc (level - 1) = omega (arith, v .some) in
+        counting-on c (omega arith) (omega arith)
+        (depth-more (λ j. bit j a) (λ j. bit j b) n i (level - 1) h (level-before ∙ z) ∙ omega (arith, v .some))
+
+    pub counting-closes : {rest : ℕ} → Cleared left i rest → bit i a ≡ false → (level ≡ 1 → ⊥) → Counting a b n rest (level - 1)
+    counting-closes c h ne =
+        let z : level ≡ suc (level - 1) = omega (arith, v .some) in
+        counting-on c (omega (arith, v .some)) (omega arith)
+        (depth-less (λ j. bit j a) (λ j. bit j b) n i (level - 1) h (closes h) (level-before ∙ z))
+
+-- a block without brackets
+pub passed-none : {a b n : ℕ} → bitOr a b ≡ 0 → 1 ≤ n → Finds a b n 64 n
+passed-none {a} {b} {n} z h = counting-none (counting-starts (omega arith) h) z

@@ -1,0 +1,4 @@
+pub mod Brackets
+pub mod BracketLaws
+pub mod ContainerEnds
+pub mod Passing

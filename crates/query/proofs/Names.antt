@@ -1,0 +1,277 @@
+-- Names: which bytes below 80 go on in a name, end it, or are dead, from the machine's tables; and code points from 80 on by their rows.
+-- Assumes nothing.
+use mathlib.Core.Path.{_≡_, refl, ap, sym, subst, _∙_}
+use mathlib.Core.List.{List, [], _∷_}
+use mathlib.Core.Bool.{Bool, true, false, _&&_}
+use Prim.Native.Nat.{ℕ, _+_, _≤_, _<_}
+use native.Mathlib.Omega.{arith}
+use lib.Dec.{T, leb}
+use borrow.Author.Tests.{leb-true, leb-false}
+use lib.ListN.{length, getD, drop, drop-of-length-le}
+use lib.Seq.{slice}
+use Rattle.encoding.specs.BytesLaws as L
+use Rattle.encoding.specs.CodePoint as C
+use Rattle.encoding.specs.CodePoint.{Scanned}
+use Rattle.encoding.specs.Utf8At.{reads-at, scanned-within, scanned-moved}
+use Rattle.query.specs.Grammar as G
+use Rattle.query.specs.Grammar.{Depth, Quote, quoteByte}
+use Rattle.query.specs.Machine as M
+use Rattle.query.specs.Machine.{Control, done, inside, short, quoted, dead, Row, only, range, firstRows, beginRows, dotRow, rows, pick, step}
+use Rattle.query.specs.Read.{letter, event, reading}
+use Rattle.query.specs.Spell.{spell, alike}
+use Rattle.query.specs.Rows.{miss, landing, leads, allParted, passes}
+use Rattle.query.specs.Scans.{NameByteIs, digit, upper, underscore, lower, below-digits, below-upper, between-cases, above-lower, spelt, NoName, Moved, NameChar, FirstChar, ShortName, QuotedChar, QuotedName}
+use Rattle.query.proofs.At.{byte-at, end-at, stop-at}
+use Rattle.query.proofs.Letters.{spelt-here, spelt-letter, spelt-join}
+use Rattle.query.proofs.Wides.{wide-dotted, wide-short, wide-quoted, wide-reads}
+
+-- a byte that is not the row's one byte
+pub miss-only : (n : ℕ) (c : Control) (rs : List Row) (b : ℕ) → (b ≡ n → ⊥) → pick (only n c ∷ rs) b ≡ pick rs b
+miss-only n c rs b f = miss (only n c) rs b (go (leb n b) refl (leb b n) refl)
+  where
+    go : (x : Bool) → leb n b ≡ x → (y : Bool) → leb b n ≡ y → (leb n b && leb b n) ≡ false
+    go false e y g = L.beneath n n b (leb-false n b e)
+    go true e false g = L.beyond n n b (leb-false b n g)
+    go true e true g = let z : b ≡ n = omega (arith, leb-true n b e, leb-true b n g) in absurd (f z)
+
+-- a byte of a shorthand name
+name-later : {b : ℕ} → NameByteIs b true → step (M.at (inside short)) b ≡ M.at (inside short)
+unfolding landing
+name-later (digit l h) = leads (inside short) l h (M.at (inside short)) refl
+name-later (upper l h) = leads (inside short) l h (M.at (inside short)) refl
+name-later (underscore e) = leads (inside short) {lo = 0x5F} {hi = 0x5F} (omega arith) (omega arith) (M.at (inside short)) refl
+name-later (lower l h) = leads (inside short) l h (M.at (inside short)) refl
+
+name-first : (d : Depth) {b : ℕ} → NameByteIs b true → (0x30 ≤ b → b ≤ 0x39 → ⊥) → step (M.at (M.dotted d)) b ≡ M.at (inside short)
+unfolding landing
+name-first d (digit l h) f = absurd (f l h)
+name-first d (upper l h) f = leads (M.dotted d) l h (M.at (inside short)) refl
+name-first d (underscore e) f = leads (M.dotted d) {lo = 0x5F} {hi = 0x5F} (omega arith) (omega arith) (M.at (inside short)) refl
+name-first d (lower l h) f = leads (M.dotted d) l h (M.at (inside short)) refl
+
+-- another byte below 80 is in no row for the first byte of a shorthand name, nor in that for digits
+no-first : {b : ℕ} → NameByteIs b false → b < 0x80 → (rs : List Row) → pick (firstRows rs) b ≡ pick rs b
+unfolding allParted
+no-first (below-digits h) w rs = passes {lo = 0} {hi = 0x2F} (omega arith) (omega arith) (firstRows []) rs tt
+no-first (below-upper l h) w rs = passes {lo = 0x3A} {hi = 0x40} (omega arith) (omega arith) (firstRows []) rs tt
+no-first {b} (between-cases l f h) w rs = go (leb b 0x5E) refl
+  where
+    go : (x : Bool) → leb b 0x5E ≡ x → pick (firstRows rs) b ≡ pick rs b
+    go true e = passes {lo = 0x5B} {hi = 0x5E} (omega arith) (leb-true b 0x5E e) (firstRows []) rs tt
+    go false e = passes {lo = 0x60} {hi = 0x60} (omega (arith, leb-false b 0x5E e)) (omega arith) (firstRows []) rs tt
+no-first (above-lower l) w rs = passes {lo = 0x7B} {hi = 0x7F} (omega arith) (omega arith) (firstRows []) rs tt
+
+no-digit : {b : ℕ} → NameByteIs b false → (k : Control) (rs : List Row) → pick (range 0x30 0x39 k ∷ rs) b ≡ pick rs b
+no-digit {b} (below-digits h) k rs = miss (range 0x30 0x39 k) rs b (L.beneath 0x30 0x39 b h)
+no-digit {b} (below-upper l h) k rs = miss (range 0x30 0x39 k) rs b (L.beyond 0x30 0x39 b l)
+no-digit {b} (between-cases l f h) k rs = miss (range 0x30 0x39 k) rs b (L.beyond 0x30 0x39 b (omega arith))
+no-digit {b} (above-lower l) k rs = miss (range 0x30 0x39 k) rs b (L.beyond 0x30 0x39 b (omega arith))
+
+-- so it ends the name, or is dead where the name is due
+name-over : {b : ℕ} → NameByteIs b false → b < 0x80 → step (M.at (inside short)) b ≡ step (M.at done) b
+unfolding step
+name-over x w = no-first x w (range 0x30 0x39 (inside short) ∷ beginRows) ∙ no-digit x (inside short) beginRows
+
+no-name : (d : Depth) {b : ℕ} → NameByteIs b false → b < 0x80 → NoName d b → step (M.at (M.dotted d)) b ≡ dead
+unfolding step pick
+no-name G.plain {b} x w n =
+    no-first x w (M.dotRows G.plain) ∙ miss-only 0x2A done (dotRow G.plain ∷ []) b (n .no-star) ∙ miss-only 0x2E (M.dotted G.deep) [] b (n .no-deeper)
+no-name G.deep {b} x w n =
+    no-first x w (M.dotRows G.deep) ∙ miss-only 0x2A done (dotRow G.deep ∷ []) b (n .no-star) ∙ miss-only 0x5B M.opened [] b (n .no-deeper)
+
+digit-dies : (d : Depth) {b : ℕ} → 0x30 ≤ b → b ≤ 0x39 → step (M.at (M.dotted d)) b ≡ dead
+unfolding landing
+digit-dies G.plain l h = leads (M.dotted G.plain) l h dead refl
+digit-dies G.deep l h = leads (M.dotted G.deep) l h dead refl
+
+module _ (q : List ℕ) (i : ℕ) (h : i < length q) where
+  -- a byte that is a letter
+  one-letter : (c : Control) (k : Control) → step (M.at c) (getD q i 0) ≡ M.at k → event c k ≡ letter → reading c i (drop i q) ≡ spelt q k i true (i + 1)
+  one-letter c k e f = spelt-letter q c k k i true (i + 1) h e f (omega arith) (omega arith) (spelt-here q k (i + 1))
+
+  went-on : Moved q i true (i + 1)
+  went-on = record { within = omega arith; on = λ e. omega arith }
+
+  stayed : Moved q i false i
+  stayed = record { within = omega arith; on = λ e. let z : _≡_ {A = ℕ} 0 1 = cc in absurd (omega arith) }
+
+  scanned-moves : {ok : Bool} {r : ℕ} → Scanned C.reading q i ok r → Moved q i ok r
+  scanned-moves s = record { within = scanned-within s (omega arith); on = λ e. scanned-moved (reads-at s) e }
+
+  -- the three answers for a character of a shorthand name
+  pub name-wide : {ok : Bool} {r : ℕ} → 0x80 ≤ getD q i 0 → Scanned C.reading q i ok r → NameChar q i ok r
+  name-wide {ok} {r} w s = record {
+    moved = scanned-moves s;
+    first = λ d n f. wide-reads q (wide-dotted d) h w (reads-at s);
+    later = λ e. rw e at (wide-reads q wide-short h w (reads-at s));
+    dead = λ e g. rw e at (wide-reads q wide-short h w (reads-at s));
+    over = λ e g. absurd (omega arith);
+  }
+
+  pub name-on : {x : Bool} → NameByteIs (getD q i 0) x → x ≡ true → NameChar q i true (i + 1)
+  name-on x e =
+      let y = subst (NameByteIs (getD q i 0)) e x in
+      record {
+        moved = went-on;
+        first = λ d n f. one-letter (M.dotted d) (inside short) (name-first d y f) refl;
+        later = λ z. one-letter (inside short) (inside short) (name-later y) refl;
+        dead = λ z. let w : _≡_ {A = ℕ} 0 1 = cc in absurd (omega arith);
+        over = λ z. let w : _≡_ {A = ℕ} 0 1 = cc in absurd (omega arith);
+      }
+
+  pub name-off : {x : Bool} → NameByteIs (getD q i 0) x → x ≡ false → getD q i 0 < 0x80 → NameChar q i false i
+  name-off x e w =
+      let y = subst (NameByteIs (getD q i 0)) e x in
+      record {
+        moved = stayed;
+        first = λ d n f. stop-at (M.dotted d) q i h (no-name d y w n);
+        later = λ z. let w : _≡_ {A = ℕ} 0 1 = cc in absurd (omega arith);
+        dead = λ z g. absurd (omega arith);
+        over = λ z g. same-done (name-over y w);
+      }
+    where
+      same-done : step (M.at (inside short)) (getD q i 0) ≡ step (M.at done) (getD q i 0) → reading (inside short) i (drop i q) ≡ reading done i (drop i q)
+      same-done f =
+          ap (reading (inside short) i) (byte-at q i h) ∙ alike (inside short) done refl refl i (getD q i 0) (drop (i + 1) q) f ∙
+          ap (reading done i) (sym (byte-at q i h))
+
+  -- a digit may not come first
+  pub no-first-digit : 0x30 ≤ getD q i 0 → getD q i 0 ≤ 0x39 → FirstChar q i false i
+  no-first-digit l u = record { moved = stayed; first = λ d n. stop-at (M.dotted d) q i h (digit-dies d l u) }
+
+pub first-char : {q : List ℕ} {i : ℕ} {ok : Bool} {r : ℕ} → NameChar q i ok r → (0x30 ≤ getD q i 0 → getD q i 0 ≤ 0x39 → ⊥) → FirstChar q i ok r
+first-char x f = record { moved = x .moved; first = λ d n. x .first d n f }
+
+-- a shorthand name spelt from n up to i
+pub record ShortSoFar (q : List ℕ) (n i : ℕ) : Type 0 where
+  pub from : n < i
+  pub within : i ≤ length q
+  pub reads : (d : Depth) → NoName d (getD q n 0) → reading (M.dotted d) n (drop n q) ≡ spelt q (inside short) n true i
+
+pub short-begins : {q : List ℕ} {n : ℕ} {ok : Bool} {i : ℕ} → FirstChar q n ok i → ok ≡ true → ShortSoFar q n i
+short-begins {q} {n} {ok} {i} x e =
+    record { from = x .moved .on e; within = x .moved .within; reads = λ d f. x .first d f ∙ ap (λ (b : Bool). spelt q (inside short) n b i) e }
+
+pub short-dead : {q : List ℕ} {n : ℕ} {ok : Bool} {i : ℕ} → FirstChar q n ok i → ok ≡ false → ShortName q n ok i
+short-dead {q} {n} {ok} {i} x e =
+    record { moved = x .moved; reads = λ d f. x .first d f ∙ ap (λ (b : Bool). spelt q (inside short) n b i) e ∙ ap (λ (b : Bool). spelt q done n b i) (sym e) }
+
+pub short-goes-on : {q : List ℕ} {n i : ℕ} {ok : Bool} {r : ℕ} → ShortSoFar q n i → NameChar q i ok r → ok ≡ true → ShortSoFar q n r
+short-goes-on {q} {n} {i} {ok} {r} s x e =
+    let m = x .moved .on e in
+    record {
+      from = omega (arith, s .from);
+      within = x .moved .within;
+      reads = λ d f. spelt-join q (M.dotted d) (inside short) (inside short) n i true r (omega (arith, s .from)) (λ z. omega arith) (s .reads d f) (x .later e);
+    }
+
+-- it ends before i, at the end of the query or at a byte in no name
+short-ends : {q : List ℕ} {n i : ℕ} → ShortSoFar q n i → reading (inside short) i (drop i q) ≡ reading done i (drop i q) → ShortName q n true i
+short-ends {q} {n} {i} s e =
+    record {
+      moved = record { within = s .within; on = λ z. s .from };
+      reads = λ d f. s .reads d f ∙ ap (spell (slice n i q)) e;
+    }
+
+pub short-over : {q : List ℕ} {n i : ℕ} {ok : Bool} {r : ℕ} → ShortSoFar q n i → NameChar q i ok r → ok ≡ false → getD q i 0 < 0x80 → ShortName q n true i
+short-over s x e w = short-ends s (x .over e w)
+
+pub short-all : {q : List ℕ} {n i : ℕ} → ShortSoFar q n i → length q ≤ i → ShortName q n true i
+unfolding reading
+short-all {q} {n} {i} s h =
+    short-ends s (ap (reading (inside short) i) (drop-of-length-le q h) ∙ sym (ap (reading done i) (drop-of-length-le q h)))
+
+pub short-wide-dead : {q : List ℕ} {n i : ℕ} {ok : Bool} {r : ℕ} → ShortSoFar q n i → NameChar q i ok r → ok ≡ false → 0x80 ≤ getD q i 0 → ShortName q n ok r
+short-wide-dead {q} {n} {i} {ok} {r} s x e w =
+    record {
+      moved = record { within = x .moved .within; on = λ z. let y : _≡_ {A = Bool} true false = cc in absurd (subst T y tt) };
+      reads = λ d f.
+          spelt-join q (M.dotted d) (inside short) done n i false r (omega (arith, s .from)) (λ z. absurd (subst T (sym z) tt)) (s .reads d f) (x .dead e w) ∙
+          ap (λ (b : Bool). spelt q done n b r) (sym e);
+    }
+
+-- quoted names
+
+quoted-on : (x : Quote) (b : ℕ) → 0x20 ≤ b → b < 0x80 → (b ≡ 0x5C → ⊥) → (b ≡ quoteByte x → ⊥) → step (M.at (inside (quoted x))) b ≡ M.at (inside (quoted x))
+unfolding landing
+quoted-on G.single b l h f g = go (leb b 0x26) refl (leb b 0x5B) refl
+  where
+    go : (x : Bool) → leb b 0x26 ≡ x → (y : Bool) → leb b 0x5B ≡ y → step (M.at (inside (quoted G.single))) b ≡ M.at (inside (quoted G.single))
+    go true e y k = leads (inside (quoted G.single)) l (leb-true b 0x26 e) (M.at (inside (quoted G.single))) refl
+    go false e true k = leads (inside (quoted G.single)) {lo = 0x28} (omega (arith, leb-false b 0x26 e)) (leb-true b 0x5B k) (M.at (inside (quoted G.single))) refl
+    go false e false k = leads (inside (quoted G.single)) {lo = 0x5D} {hi = 0x7F} (omega (arith, leb-false b 0x5B k)) (omega arith) (M.at (inside (quoted G.single))) refl
+quoted-on G.double b l h f g = go (leb b 0x21) refl (leb b 0x5B) refl
+  where
+    go : (x : Bool) → leb b 0x21 ≡ x → (y : Bool) → leb b 0x5B ≡ y → step (M.at (inside (quoted G.double))) b ≡ M.at (inside (quoted G.double))
+    go true e y k = leads (inside (quoted G.double)) l (leb-true b 0x21 e) (M.at (inside (quoted G.double))) refl
+    go false e true k = leads (inside (quoted G.double)) {lo = 0x23} (omega (arith, leb-false b 0x21 e)) (leb-true b 0x5B k) (M.at (inside (quoted G.double))) refl
+    go false e false k = leads (inside (quoted G.double)) {lo = 0x5D} {hi = 0x7F} (omega (arith, leb-false b 0x5B k)) (omega arith) (M.at (inside (quoted G.double))) refl
+
+control-dies : (x : Quote) {b : ℕ} → b < 0x20 → step (M.at (inside (quoted x))) b ≡ dead
+unfolding landing
+control-dies G.single h = leads (inside (quoted G.single)) {lo = 0} {hi = 0x1F} (omega arith) (omega arith) dead refl
+control-dies G.double h = leads (inside (quoted G.double)) {lo = 0} {hi = 0x1F} (omega arith) (omega arith) dead refl
+
+backslash-dies : (x : Quote) {b : ℕ} → b ≡ 0x5C → step (M.at (inside (quoted x))) b ≡ dead
+unfolding step
+backslash-dies G.single e = rw e refl
+backslash-dies G.double e = rw e refl
+
+module _ (q : List ℕ) (i : ℕ) (h : i < length q) where
+  pub quoted-wide : {ok : Bool} {r : ℕ} → 0x80 ≤ getD q i 0 → Scanned C.reading q i ok r → QuotedChar q i ok r
+  quoted-wide w s = record { moved = scanned-moves q i h s; reads = λ x f. wide-reads q (wide-quoted x) h w (reads-at s) }
+
+  pub quoted-control : getD q i 0 < 0x20 → QuotedChar q i false i
+  quoted-control w = record { moved = stayed q i h; reads = λ x f. stop-at (inside (quoted x)) q i h (control-dies x w) }
+
+  pub quoted-backslash : getD q i 0 ≡ 0x5C → QuotedChar q i false i
+  quoted-backslash w = record { moved = stayed q i h; reads = λ x f. stop-at (inside (quoted x)) q i h (backslash-dies x w) }
+
+  pub quoted-letter : 0x20 ≤ getD q i 0 → getD q i 0 < 0x80 → (getD q i 0 ≡ 0x5C → ⊥) → QuotedChar q i true (i + 1)
+  quoted-letter l u n = record {
+    moved = went-on q i h;
+    reads = λ x f. one-letter q i h (inside (quoted x)) (inside (quoted x)) (quoted-on x (getD q i 0) l u n f) refl;
+  }
+
+-- a quoted name spelt from n up to i
+pub record QuotedSoFar (q : List ℕ) (quote n i : ℕ) : Type 0 where
+  pub from : n ≤ i
+  pub within : i ≤ length q
+  pub reads : (x : Quote) → quote ≡ quoteByte x → reading (inside (quoted x)) n (drop n q) ≡ spelt q (inside (quoted x)) n true i
+
+pub quoted-begins : {q : List ℕ} {quote n : ℕ} → n ≤ length q → QuotedSoFar q quote n n
+quoted-begins {q} {quote} {n} h = record { from = omega arith; within = h; reads = λ x e. spelt-here q (inside (quoted x)) n }
+
+pub quoted-goes-on : {q : List ℕ} {quote n i : ℕ} {ok : Bool} {r : ℕ} → QuotedSoFar q quote n i → (getD q i 0 ≡ quote → ⊥) → QuotedChar q i ok r → ok ≡ true → QuotedSoFar q quote n r
+quoted-goes-on {q} {quote} {n} {i} {ok} {r} s f x e =
+    let m = x .moved .on e in
+    record {
+      from = omega (arith, s .from);
+      within = x .moved .within;
+      reads = λ y z.
+          spelt-join q (inside (quoted y)) (inside (quoted y)) (inside (quoted y)) n i true r (s .from) (λ w. omega arith) (s .reads y z)
+          (x .reads y (λ w. f (w ∙ sym z)) ∙ ap (λ (b : Bool). spelt q (inside (quoted y)) i b r) e);
+    }
+
+pub quoted-closes : {q : List ℕ} {quote n i : ℕ} → QuotedSoFar q quote n i → i < length q → getD q i 0 ≡ quote → QuotedName q quote n true i
+quoted-closes s h e = record { within = s .within; closed = λ w. (s .from, h, e); reads = s .reads }
+
+pub quoted-dead : {q : List ℕ} {quote n i : ℕ} {ok : Bool} {r : ℕ} → QuotedSoFar q quote n i → (getD q i 0 ≡ quote → ⊥) → QuotedChar q i ok r → ok ≡ false → QuotedName q quote n ok r
+quoted-dead {q} {quote} {n} {i} {ok} {r} s f x e =
+    record {
+      within = x .moved .within;
+      closed = λ w. absurd (subst T (sym w ∙ e) tt);
+      reads = λ y z.
+          spelt-join q (inside (quoted y)) (inside (quoted y)) (inside (quoted y)) n i ok r (s .from) (λ w. absurd (subst T (sym w ∙ e) tt)) (s .reads y z)
+          (x .reads y (λ w. f (w ∙ sym z)));
+    }
+
+pub quoted-open : {q : List ℕ} {quote n i : ℕ} → QuotedSoFar q quote n i → length q ≤ i → QuotedName q quote n false i
+quoted-open {q} {quote} {n} {i} s h =
+    record {
+      within = s .within;
+      closed = λ w. absurd (subst T (sym w) tt);
+      reads = λ x z.
+          spelt-join q (inside (quoted x)) (inside (quoted x)) (inside (quoted x)) n i false i (s .from) (λ w. absurd (subst T (sym w) tt)) (s .reads x z)
+          (end-at (inside (quoted x)) q i h refl);
+    }

@@ -1,0 +1,274 @@
+-- One step of a query: each part of it that a scan passed leads the reading on, and what is read behind a step has nothing more to say of it.
+-- Assumes nothing.
+use mathlib.Core.Path.{_≡_, refl, ap, ap₂, sym, subst, _∙_}
+use mathlib.Core.List.{List, [], _∷_}
+use mathlib.Core.Bool.{Bool, true, false}
+use Prim.Native.Nat.{ℕ, suc, _+_, _≤_, _<_}
+use native.Mathlib.Omega.{arith}
+use lib.Dec.{T}
+use lib.ListN.{length, getD, drop}
+use lib.Seq.{slice}
+use Rattle.encoding.specs.Bytes as B
+use Rattle.query.specs.declared.step.Found.{Found}
+use Rattle.query.specs.declared.step.StepRead.{StepRead}
+use Rattle.query.specs.declared.step.StepRead.the-variants.{Taken, Refused}
+use Rattle.query.specs.Grammar as G
+use Rattle.query.specs.Grammar.{Quote, quoteByte, Depth}
+use Rattle.query.specs.Steps as S
+use Rattle.query.specs.Steps.{Selector}
+use Rattle.query.specs.Machine as M
+use Rattle.query.specs.Machine.{Control, root, done, gap, opened, closing, inside, tailDue, quoted, State, dead, Row, blankRows, beginRows, pick, step}
+use Rattle.query.specs.Read as R
+use Rattle.query.specs.Read.{begin, deepen, Placed, named, Reading, good, bad, note, reading}
+use Rattle.query.specs.Rows.{Lives, every-pick}
+use Rattle.query.specs.Spell as P
+use Rattle.query.specs.Spell.{spell, spell-named, done-gap}
+use Rattle.query.specs.Text.{quote-opens, quote-closes}
+use Rattle.query.specs.Scans.{BlankIs, other, Skipped, in-gap, in-opened, in-closing, spelt, deeperByte, ShortName, QuotedName}
+use Rattle.query.specs.Reader
+use Rattle.query.specs.Reader.{depthOf, selectorAt, Bounded, choose, push, Closed, PartRead, StepAt}
+use Rattle.query.proofs.At.{byte-at, end-at, stop-at, turn-at, kept-at}
+use Rattle.query.proofs.Letters.{spell-bad}
+use Rattle.query.proofs.Names.{miss-only}
+
+-- a reading that says nothing of the step before it
+pub data Ended : Reading → Type 0 where
+  clean : (l : List Placed) → Ended (good (named [] l))
+  cut : (p : ℕ) → Ended (bad p)
+
+-- where a step may begin, blanks and the beginning of a step alone lead on
+abbrev Begins : Control → Type 0
+Begins root = ⊥
+Begins done = ⊥
+Begins gap = Unit {0}
+Begins (M.dotted G.plain) = Unit {0}
+Begins (M.dotted G.deep) = ⊥
+Begins opened = Unit {0}
+Begins closing = ⊥
+Begins (inside h) = ⊥
+Begins (tailDue p n h) = ⊥
+
+ended-begin : (n b : ℕ) (r : Reading) → Ended (note begin n b r)
+ended-begin n b (good a) = clean _
+ended-begin n b (bad p) = cut p
+
+ended-state : (n b : ℕ) (s : List ℕ) (m : State) → step (M.at gap) b ≡ m → Lives Begins m → Ended (reading gap (suc n) s) → Ended (reading gap n (b ∷ s))
+ended-state n b s dead e l again = subst Ended (sym (P.stop gap n b s e)) (cut n)
+ended-state n b s (M.at root) e l again = absurd l
+ended-state n b s (M.at done) e l again = absurd l
+ended-state n b s (M.at gap) e l again = subst Ended (sym (P.kept gap gap n b s e refl)) again
+ended-state n b s (M.at (M.dotted G.plain)) e l again = subst Ended (sym (P.turn gap (M.dotted G.plain) n b s e)) (ended-begin n b (reading (M.dotted G.plain) (suc n) s))
+ended-state n b s (M.at (M.dotted G.deep)) e l again = absurd l
+ended-state n b s (M.at opened) e l again = subst Ended (sym (P.turn gap opened n b s e)) (ended-begin n b (reading opened (suc n) s))
+ended-state n b s (M.at closing) e l again = absurd l
+ended-state n b s (M.at (inside h)) e l again = absurd l
+ended-state n b s (M.at (tailDue p k h)) e l again = absurd l
+
+begins-lives : (b : ℕ) → Lives Begins (step (M.at gap) b)
+unfolding step
+begins-lives b = every-pick Begins beginRows b (tt, (tt, (tt, (tt, (tt, (tt, tt))))))
+
+ended-gap : (n : ℕ) (s : List ℕ) → Ended (reading gap n s)
+unfolding reading
+ended-gap n [] = cut n
+ended-gap n (b ∷ s) = ended-state n b s (step (M.at gap) b) refl (begins-lives b) (ended-gap (suc n) s)
+
+pub ended : (n : ℕ) (s : List ℕ) → Ended (reading done n s)
+unfolding reading
+ended n [] = clean []
+ended n (b ∷ s) = subst Ended (sym (done-gap n b s)) (ended-gap n (b ∷ s))
+
+-- what a step takes, before what is read behind it
+choose-every : (n b : ℕ) (r : Reading) → Ended r → note R.every n b r ≡ choose S.every r
+choose-every n b r (clean l) = refl
+choose-every n b r (cut p) = refl
+
+choose-name : (w : List ℕ) (r : Reading) → Ended r → spell w r ≡ choose (S.name w) r
+choose-name w r (clean l) = spell-named w l
+choose-name w r (cut p) = spell-bad w p
+
+-- a step begins, with what it takes
+push-plain : (n b : ℕ) (x : Selector) (r : Reading) → note begin n b (choose x r) ≡ push (record { place = n; step = record { deep = false; selector = x } }) r
+push-plain n b x (good a) = refl
+push-plain n b x (bad p) = refl
+
+push-deep : (n b m c : ℕ) (x : Selector) (r : Reading) →
+    note begin n b (note deepen m c (choose x r)) ≡ push (record { place = n; step = record { deep = true; selector = x } }) r
+push-deep n b m c x (good a) = refl
+push-deep n b m c x (bad p) = refl
+
+-- a byte that is no blank is in no row of blanks
+no-blank : {b : ℕ} → BlankIs b false → (c : Control) (rs : List Row) → pick (blankRows c rs) b ≡ pick rs b
+no-blank {b} (other f) c rs =
+    miss-only 0x20 c _ b (f B.space) ∙ miss-only 0x09 c _ b (f B.tab) ∙ miss-only 0x0A c _ b (f B.feed) ∙ miss-only 0x0D c rs b (f B.return)
+
+other-gap : {b : ℕ} → BlankIs b false → (b ≡ 0x2E → ⊥) → (b ≡ 0x5B → ⊥) → step (M.at gap) b ≡ dead
+unfolding step pick
+other-gap {b} x f g = no-blank x gap M.stepRows ∙ miss-only 0x2E (M.dotted G.plain) (M.only 0x5B opened ∷ []) b f ∙ miss-only 0x5B opened [] b g
+
+other-opened : {b : ℕ} → BlankIs b false → (b ≡ 0x2A → ⊥) → (b ≡ 0x27 → ⊥) → (b ≡ 0x22 → ⊥) → step (M.at opened) b ≡ dead
+unfolding step pick
+other-opened {b} x f g h =
+    let second : List Row = M.only 0x22 (inside (quoted G.double)) ∷ [] in
+    no-blank x opened M.innerRows ∙ miss-only 0x2A closing (M.only 0x27 (inside (quoted G.single)) ∷ second) b f ∙
+    miss-only 0x27 (inside (quoted G.single)) second b g ∙ miss-only 0x22 (inside (quoted G.double)) [] b h
+
+other-closing : {b : ℕ} → BlankIs b false → (b ≡ 0x5D → ⊥) → step (M.at closing) b ≡ dead
+unfolding step pick
+other-closing {b} x f = no-blank x closing (M.only 0x5D done ∷ []) ∙ miss-only 0x5D done [] b f
+
+-- the closing bracket
+module _ {q : List ℕ} {f : Found} {n r : ℕ} (s : Skipped q n r) where
+  pub close-end : length q ≤ r → Closed q f n (Refused r)
+  close-end h = Reader.Closed.refused r (s .over closing in-closing ∙ end-at closing q r h refl)
+
+  pub close-other : r < length q → (getD q r 0 ≡ 0x5D → ⊥) → Closed q f n (Refused r)
+  close-other h g = Reader.Closed.refused r (s .over closing in-closing ∙ stop-at closing q r h (other-closing (s .next h) g))
+
+  pub close-taken : r < length q → getD q r 0 ≡ 0x5D → Closed q f n (Taken f (r + 1))
+  unfolding step
+  close-taken h e =
+      Reader.Closed.taken (r + 1) (omega (arith, s .from)) (omega arith)
+      (s .over closing in-closing ∙ kept-at closing q r h done (ap (step (M.at closing)) e) refl)
+
+-- a part of a step, from where the reading was led on
+pub part-from : {q : List ℕ} {c k : Control} {n m place : ℕ} {deep : Bool} {r : StepRead} → n ≤ m → reading c n (drop n q) ≡ reading k m (drop m q) →
+    PartRead q k m place deep r → PartRead q c n place deep r
+part-from l e (Reader.PartRead.taken f m p d b h w g) = Reader.PartRead.taken f m p d b (omega arith) w (e ∙ g)
+part-from l e (Reader.PartRead.refused p g) = Reader.PartRead.refused p (e ∙ g)
+
+-- what was read in brackets, and their end
+module _ (q : List ℕ) (c : Control) (n k : ℕ) (f : Found) (said : Reading → Reading) (l : n ≤ k) (b : Bounded q f)
+    (bads : (p : ℕ) → said (bad p) ≡ bad p) (chooses : (r : Reading) → Ended r → said r ≡ choose (selectorAt q (f .every) (f .start) (f .end)) r)
+    (e : reading c n (drop n q) ≡ said (reading closing k (drop k q))) where
+  close-part : {a : StepRead} → Closed q f k a → PartRead q c n (f .place) (f .deep) a
+  close-part (Reader.Closed.taken m h w g) = Reader.PartRead.taken f m refl refl b (omega arith) w (e ∙ ap said g ∙ chooses (reading done m (drop m q)) (ended m (drop m q)))
+  close-part (Reader.Closed.refused p g) = Reader.PartRead.refused p (e ∙ ap said g ∙ bads p)
+
+abbrev nameFound : ℕ → Bool → ℕ → ℕ → Found
+nameFound place d a b = record { deep = d; every = false; place = place; start = a; end = b }
+
+abbrev everyFound : ℕ → Bool → Found
+everyFound place d = record { deep = d; every = true; place = place; start = 0; end = 0 }
+
+-- a quoted name
+module _ {q : List ℕ} {quote n place : ℕ} {deep ok : Bool} {r : ℕ} (s : QuotedName q quote n ok r) where
+  pub quoted-refused : ok ≡ false → (x : Quote) → quote ≡ quoteByte x → PartRead q (inside (quoted x)) n place deep (Refused r)
+  quoted-refused e x z = Reader.PartRead.refused r (s .reads x z ∙ ap (λ (b : Bool). spelt q (inside (quoted x)) n b r) e)
+
+  pub quoted-taken : ok ≡ true → {a : StepRead} → Closed q (nameFound place deep n r) (r + 1) a → (x : Quote) → quote ≡ quoteByte x →
+      PartRead q (inside (quoted x)) n place deep a
+  quoted-taken e d x z =
+      let c = s .closed e in
+      close-part q (inside (quoted x)) n (r + 1) (nameFound place deep n r) (spell (slice n r q)) (omega (arith, c .0))
+      (record { order = c .0; within = s .within; none = λ y. absurd (subst T (sym y) tt) })
+      (spell-bad (slice n r q)) (choose-name (slice n r q))
+      (s .reads x z ∙ ap (λ (b : Bool). spelt q (inside (quoted x)) n b r) e ∙
+      ap (spell (slice n r q)) (kept-at (inside (quoted x)) q r (c .1) closing (ap (step (M.at (inside (quoted x)))) (c .2 ∙ z) ∙ quote-closes x) refl))
+      d
+
+-- in brackets
+module _ {q : List ℕ} {n r : ℕ} (s : Skipped q n r) {place : ℕ} {deep : Bool} where
+  pub opened-end : length q ≤ r → PartRead q opened n place deep (Refused r)
+  opened-end h = Reader.PartRead.refused r (s .over opened in-opened ∙ end-at opened q r h refl)
+
+  module _ (h : r < length q) where
+    pub opened-other : (getD q r 0 ≡ 0x2A → ⊥) → (getD q r 0 ≡ 0x27 → ⊥) → (getD q r 0 ≡ 0x22 → ⊥) → PartRead q opened n place deep (Refused r)
+    opened-other f g k = Reader.PartRead.refused r (s .over opened in-opened ∙ stop-at opened q r h (other-opened (s .next h) f g k))
+
+    pub opened-every : getD q r 0 ≡ 0x2A → {a : StepRead} → Closed q (everyFound place deep) (r + 1) a → PartRead q opened n place deep a
+    unfolding step
+    opened-every e z =
+        close-part q opened n (r + 1) (everyFound place deep) (note R.every r (getD q r 0)) (omega (arith, s .from))
+        (record { order = omega arith; within = omega arith; none = λ y. omega arith })
+        (λ p. refl) (choose-every r (getD q r 0))
+        (s .over opened in-opened ∙ turn-at opened q r h closing (ap (step (M.at opened)) e)) z
+
+    pub opened-quote : (x : Quote) → getD q r 0 ≡ quoteByte x → {a : StepRead} → PartRead q (inside (quoted x)) (r + 1) place deep a → PartRead q opened n place deep a
+    opened-quote x e z =
+        part-from (omega (arith, s .from)) (s .over opened in-opened ∙ kept-at opened q r h (inside (quoted x)) (ap (step (M.at opened)) e ∙ quote-opens x) refl) z
+
+-- behind `.` or `..`
+star-done : (d : Depth) → step (M.at (M.dotted d)) 0x2A ≡ M.at done
+unfolding step
+star-done d = refl
+
+module _ {q : List ℕ} {n place : ℕ} {deep : Bool} where
+  pub short-end : length q ≤ n → PartRead q (M.dotted (depthOf deep)) n place deep (Refused n)
+  short-end h = Reader.PartRead.refused n (end-at (M.dotted (depthOf deep)) q n h refl)
+
+  pub short-every : n < length q → getD q n 0 ≡ 0x2A → PartRead q (M.dotted (depthOf deep)) n place deep (Taken (everyFound place deep) (n + 1))
+  short-every h e =
+      Reader.PartRead.taken (everyFound place deep) (n + 1) refl refl (record { order = omega arith; within = omega arith; none = λ y. omega arith })
+      (omega arith) (omega arith)
+      (turn-at (M.dotted (depthOf deep)) q n h done (ap (step (M.at (M.dotted (depthOf deep)))) e ∙ star-done (depthOf deep)) ∙
+      choose-every n (getD q n 0) (reading done (n + 1) (drop (n + 1) q)) (ended (n + 1) (drop (n + 1) q)))
+
+  module _ (f : getD q n 0 ≡ 0x2A → ⊥) (g : getD q n 0 ≡ deeperByte (depthOf deep) → ⊥) {ok : Bool} {r : ℕ} (s : ShortName q n ok r) where
+    pub short-refused : ok ≡ false → PartRead q (M.dotted (depthOf deep)) n place deep (Refused r)
+    short-refused e = Reader.PartRead.refused r (s .reads (depthOf deep) (record { no-star = f; no-deeper = g }) ∙ ap (λ (b : Bool). spelt q done n b r) e)
+
+    pub short-taken : ok ≡ true → PartRead q (M.dotted (depthOf deep)) n place deep (Taken (nameFound place deep n r) r)
+    short-taken e =
+        let m = s .moved .on e in
+        Reader.PartRead.taken (nameFound place deep n r) r refl refl
+        (record { order = omega arith; within = s .moved .within; none = λ y. absurd (subst T (sym y) tt) }) m (s .moved .within)
+        (s .reads (depthOf deep) (record { no-star = f; no-deeper = g }) ∙ ap (λ (b : Bool). spelt q done n b r) e ∙ choose-name (slice n r q) (reading done r (drop r q)) (ended r (drop r q)))
+
+bracket-opens : step (M.at (M.dotted G.deep)) 0x5B ≡ M.at opened
+unfolding step
+bracket-opens = refl
+
+pub deep-bracket : {q : List ℕ} {n place : ℕ} {a : StepRead} → n < length q → getD q n 0 ≡ 0x5B → PartRead q opened (n + 1) place true a →
+    PartRead q (M.dotted (depthOf true)) n place true a
+deep-bracket {q} {n} h e z = part-from (omega arith) (kept-at (M.dotted G.deep) q n h opened (ap (step (M.at (M.dotted G.deep))) e ∙ bracket-opens) refl) z
+
+-- a whole step
+
+-- what its first bytes say, and the rest of it
+module _ (q : List ℕ) (c : Control) (n k place : ℕ) (deep : Bool) (said : Reading → Reading) (l : n ≤ k) (bads : (p : ℕ) → said (bad p) ≡ bad p)
+    (pushes : (x : Selector) (r : Reading) → said (choose x r) ≡ push (record { place = place; step = record { deep = deep; selector = x } }) r)
+    (e : reading done n (drop n q) ≡ said (reading c k (drop k q))) where
+  whole-step : {a : StepRead} → PartRead q c k place deep a → StepAt q n a
+  whole-step (Reader.PartRead.taken f m p d b h w g) =
+      let x : Selector = selectorAt q (f .every) (f .start) (f .end) in
+      Reader.StepAt.taken f m b (omega arith) w
+      (e ∙ ap said g ∙ pushes x (reading done m (drop m q)) ∙
+      ap₂ (λ (i : ℕ) (t : Bool). push (record { place = i; step = record { deep = t; selector = x } }) (reading done m (drop m q))) (sym p) (sym d))
+  whole-step (Reader.PartRead.refused p g) = Reader.StepAt.refused p (e ∙ ap said g ∙ bads p)
+
+module _ {q : List ℕ} {n r : ℕ} (l : n < length q) (s : Skipped q n r) where
+  to-gap : reading done n (drop n q) ≡ reading gap r (drop r q)
+  to-gap = ap (reading done n) (byte-at q n l) ∙ done-gap n (getD q n 0) (drop (n + 1) q) ∙ ap (reading gap n) (sym (byte-at q n l)) ∙ s .over gap in-gap
+
+  pub step-cut : length q ≤ r → StepAt q n (Refused r)
+  step-cut h = Reader.StepAt.refused r (to-gap ∙ end-at gap q r h refl)
+
+  module _ (h : r < length q) where
+    pub step-other : (getD q r 0 ≡ 0x5B → ⊥) → (getD q r 0 ≡ 0x2E → ⊥) → StepAt q n (Refused r)
+    step-other f g = Reader.StepAt.refused r (to-gap ∙ stop-at gap q r h (other-gap (s .next h) g f))
+
+    pub step-bracket : getD q r 0 ≡ 0x5B → {a : StepRead} → PartRead q opened (r + 1) r false a → StepAt q n a
+    unfolding step
+    step-bracket e z =
+        whole-step q opened n (r + 1) r false (note begin r (getD q r 0)) (omega (arith, s .from)) (λ p. refl) (push-plain r (getD q r 0))
+        (to-gap ∙ turn-at gap q r h opened (ap (step (M.at gap)) e)) z
+
+    module _ (e : getD q r 0 ≡ 0x2E) where
+      dot : reading done n (drop n q) ≡ note begin r (getD q r 0) (reading (M.dotted G.plain) (r + 1) (drop (r + 1) q))
+      unfolding step
+      dot = to-gap ∙ turn-at gap q r h (M.dotted G.plain) (ap (step (M.at gap)) e)
+
+      pub step-dot-end : length q ≤ r + 1 → StepAt q n (Refused (r + 1))
+      step-dot-end g = Reader.StepAt.refused (r + 1) (dot ∙ ap (note begin r (getD q r 0)) (end-at (M.dotted G.plain) q (r + 1) g refl))
+
+      pub step-plain : {a : StepRead} → PartRead q (M.dotted (depthOf false)) (r + 1) r false a → StepAt q n a
+      step-plain z =
+          whole-step q (M.dotted G.plain) n (r + 1) r false (note begin r (getD q r 0)) (omega (arith, s .from)) (λ p. refl) (push-plain r (getD q r 0)) dot z
+
+      pub step-deep : r + 1 < length q → getD q (r + 1) 0 ≡ 0x2E → {a : StepRead} → PartRead q (M.dotted (depthOf true)) (r + 1 + 1) r true a → StepAt q n a
+      unfolding step
+      step-deep g f z =
+          whole-step q (M.dotted G.deep) n (r + 1 + 1) r true (λ x. note begin r (getD q r 0) (note deepen (r + 1) (getD q (r + 1) 0) x)) (omega (arith, s .from))
+          (λ p. refl) (push-deep r (getD q r 0) (r + 1) (getD q (r + 1) 0))
+          (dot ∙ ap (note begin r (getD q r 0)) (turn-at (M.dotted G.plain) q (r + 1) g (M.dotted G.deep) (ap (step (M.at (M.dotted G.plain))) f))) z

@@ -1,0 +1,81 @@
+-- `swar::spaces` meets its contract. The loop's invariant: there are spaces only from `at` to `i`. What differs from a space is not 0, at each of
+-- eight bytes. Assumes nothing.
+use mathlib.Core.Path.{refl}
+use Prim.Native.Nat.{_-_}
+use native.Mathlib.Omega.{arith}
+use lib.ListN.{length}
+use Rattle.bits.specs.Truth.{allBelow}
+use Rattle.swar.specs.Kinds.{spaceByte}
+use Rattle.swar.specs.Lanes.{Lane, byte, same, both, xor}
+use Rattle.swar.specs.Run.{Passed}
+use Rattle.swar.specs.Passing.{at-start, passed-more}
+use Rattle.swar.specs.Stops.{marksKind, by-lane, first-within, stops-none, stops-before}
+use borrow.Author.Needs.{needs}
+use Rattle.swar.proofs.spaces.Statement.{statement}
+use Rattle.swar.proofs.spaces.Tie as tie
+
+abbrev lane : Lane
+lane = both xor byte (same 0x20)
+
+abbrev Inv-loop : tie.InvT-loop
+Inv-loop s at i₀ i = Passed spaceByte s at i
+
+abbrev μ-loop : tie.MeasureT-loop
+μ-loop s at i₀ i = length s - i
+
+loop-holds : tie.Need-loop-holds Inv-loop μ-loop
+loop-holds c = at-start (c .before .pre)
+
+sub-loop : tie.Need-sub-loop Inv-loop μ-loop
+sub-loop c = search needs
+
+load8-requires : tie.Need-load8-requires Inv-loop μ-loop
+load8-requires c κs = search needs
+
+zero-bytes-requires : tie.Need-zero-bytes-requires Inv-loop μ-loop
+zero-bytes-requires c κs = search needs
+
+add-result : tie.Need-add-result Inv-loop μ-loop
+add-result c = omega (arith, first-within (c .zero-bytes .ensures))
+
+returns : tie.Need-returns Inv-loop μ-loop
+unfolding allBelow marksKind spaceByte
+returns c =
+    let at = c .before .before .before .before in
+    passed-more (c .zero-bytes .result) (at .loop .inv) (omega (arith, first-within (c .zero-bytes .ensures)))
+    (stops-before (λ j. omega (arith, at .before .shared-slice-known .given j)) (c .before .before .load8 .ensures)
+    (by-lane spaceByte lane tt refl) (c .zero-bytes .ensures))
+
+add-i : tie.Need-add-i Inv-loop μ-loop
+add-i c = search needs
+
+loop-less : tie.Need-loop-less Inv-loop μ-loop
+loop-less c = search needs
+
+loop-again : tie.Need-loop-again Inv-loop μ-loop
+unfolding allBelow marksKind spaceByte
+loop-again c =
+    let at = c .before .before .before in
+    passed-more 8 (at .loop .inv) (omega arith)
+    (stops-none (λ j. omega (arith, at .before .shared-slice-known .given j)) (c .before .load8 .ensures)
+    (by-lane spaceByte lane tt refl) (c .if1 .left))
+
+returns-2 : tie.Need-returns-2 Inv-loop μ-loop
+returns-2 c = c .before .loop .inv
+
+pub spaces-spec : {M : Type 1} → statement M
+spaces-spec =
+    tie.close
+    (tie.spec
+    Inv-loop
+    μ-loop
+    loop-holds
+    sub-loop
+    load8-requires
+    zero-bytes-requires
+    add-result
+    returns
+    add-i
+    loop-less
+    loop-again
+    returns-2)

@@ -1,0 +1,26 @@
+-- Kinds of bytes that come in runs.
+use mathlib.Core.Bool.{Bool, true, false, _&&_, _||_, not}
+use Prim.Native.Nat.{ℕ}
+use lib.Dec.{leb, eqb}
+use Rattle.encoding.specs.Class.{classOf}
+
+-- a byte that stands for itself in a string (RFC 8259 §7, unescaped, below 80): 20-21, 23-5B, 5D-7F
+unfoldable pub plain : ℕ → Bool
+plain b = (leb 0x20 b && leb b 0x21) || ((leb 0x23 b && leb b 0x5B) || (leb 0x5D b && leb b 0x7F))
+
+-- a byte that neither ends a string nor escapes: neither quote nor backslash
+unfoldable pub body : ℕ → Bool
+body b = not (eqb b 0x22) && not (eqb b 0x5C)
+
+-- a blank, by its class
+unfoldable pub blank : ℕ → Bool
+unfolding classOf
+blank b = eqb (classOf b) 7
+
+unfoldable pub spaceByte : ℕ → Bool
+spaceByte b = eqb b 0x20
+
+-- the bytes of a string, strictly or not
+abbrev pub stringKind : Bool → ℕ → Bool
+stringKind true b = plain b
+stringKind false b = body b

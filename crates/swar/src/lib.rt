@@ -1,0 +1,197 @@
+// Runs of bytes of one kind, eight bytes at a time.
+ghost use Prim.Native.Nat.{_+_, _≤_};
+ghost use mathlib.Core.Path.{_≡_};
+ghost use lib.ListN.{length};
+ghost use Rattle.swar.specs.Kinds.{plain, body, blank, spaceByte, stringKind};
+ghost use Rattle.swar.specs.Run.{Passed, Run};
+ghost use Rattle.swar.specs.Stops.{Stops, FirstByte};
+
+const QUOTE: u8 = 0x22;
+
+const BACKSLASH: u8 = 0x5C;
+
+const SPACE: u8 = 0x20;
+
+const TAB: u8 = 0x09;
+
+const LINE_FEED: u8 = 0x0A;
+
+const CARRIAGE_RETURN: u8 = 0x0D;
+
+// Eight spaces.
+const SPACES: u64 = 0x2020202020202020;
+
+// Whether `b` is a plain byte of a string, or, where `strict` is false, neither quote nor backslash.
+fn in_string(b: u8, strict: bool) -> bool
+    ensures { λ r. ⌜ r ≡ stringKind strict b ⌝ }
+{
+    if b == QUOTE {
+        return false;
+    }
+    if b == BACKSLASH {
+        return false;
+    }
+    if !strict {
+        return true;
+    }
+    if b < 0x20 {
+        return false;
+    }
+    if b > 0x7F {
+        return false;
+    }
+    true
+}
+
+// Of eight bytes, those that are neither quote nor backslash come back as 0, and the others not.
+fn body_stops(x: u64) -> u64
+    ensures { λ r. ⌜ Stops body x r ⌝ }
+{
+    let q = x ^ 0x2222222222222222;
+    let b = x ^ 0x5c5c5c5c5c5c5c5c;
+    let other = std::num::wrapping_add_u64(q & 0x7f7f7f7f7f7f7f7f, 0x7f7f7f7f7f7f7f7f) | q;
+    let plain = std::num::wrapping_add_u64(b & 0x7f7f7f7f7f7f7f7f, 0x7f7f7f7f7f7f7f7f) | b;
+    ((other & plain) ^ 0xffffffffffffffff) & 0x8080808080808080
+}
+
+// Of eight bytes, those that are plain in a string come back as 0, and the others not.
+fn plain_stops(x: u64) -> u64
+    ensures { λ r. ⌜ Stops plain x r ⌝ }
+{
+    let l = x & 0x7f7f7f7f7f7f7f7f;
+    let from = std::num::wrapping_add_u64(l, 0x6060606060606060);
+    let other = std::num::wrapping_add_u64(l ^ 0x2222222222222222, 0x7f7f7f7f7f7f7f7f);
+    let plain = std::num::wrapping_add_u64(l ^ 0x5c5c5c5c5c5c5c5c, 0x7f7f7f7f7f7f7f7f);
+    ((from & other & plain ^ 0xffffffffffffffff) | x) & 0x8080808080808080
+}
+
+// Of eight bytes, those of the kind come back as 0, and the others not.
+fn stops(x: u64, strict: bool) -> u64
+    ensures { λ r. ⌜ Stops (stringKind strict) x r ⌝ }
+{
+    if strict {
+        plain_stops(x)
+    } else {
+        body_stops(x)
+    }
+}
+
+// How many bytes of `w` before its first that is not 0; 8 where there is none.
+fn zero_bytes(w: u64) -> usize
+    ensures { λ r. ⌜ FirstByte w r ⌝ }
+{
+    (bits::lowest(w) / 8) as usize
+}
+
+// The end of the run from `at` on, byte by byte.
+fn string_tail(s: &[u8], at: usize, strict: bool) -> usize
+    requires { ⌜ at ≤ length (now s) ⌝ }
+    ensures { λ r. ⌜ Run (stringKind strict) (now (s .entry)) at r ⌝ }
+{
+    let mut i = at;
+    while i < s.len() {
+        if !in_string(s[i], strict) {
+            return i;
+        }
+        i += 1;
+    }
+    i
+}
+
+// The end of the run from `at` on, eight bytes at a time.
+fn string_bytes(s: &[u8], at: usize, strict: bool) -> usize
+    requires { ⌜ at ≤ length (now s) ⌝ }
+    ensures { λ r. ⌜ Run (stringKind strict) (now (s .entry)) at r ⌝ }
+{
+    let mut i = at;
+    while s.len() - i >= 8 {
+        let w = stops(bits::load8(s, i), strict);
+        if w != 0 {
+            return i + zero_bytes(w);
+        }
+        i += 8;
+    }
+    string_tail(s, i, strict)
+}
+
+// The end of the plain bytes of a string from `at` on: 20-21, 23-5B, 5D-7F.
+pub fn plain_run(s: &[u8], at: usize) -> usize
+    requires { ⌜ at ≤ length (now s) ⌝ }
+    ensures { λ r. ⌜ Run plain (now (s .entry)) at r ⌝ }
+{
+    string_bytes(s, at, true)
+}
+
+// The end of the bytes from `at` on that are neither quote nor backslash.
+pub fn string_run(s: &[u8], at: usize) -> usize
+    requires { ⌜ at ≤ length (now s) ⌝ }
+    ensures { λ r. ⌜ Run body (now (s .entry)) at r ⌝ }
+{
+    string_bytes(s, at, false)
+}
+
+// Whether `b` is a blank.
+fn is_blank(b: u8) -> bool
+    ensures { λ r. ⌜ r ≡ blank b ⌝ }
+{
+    if b > SPACE {
+        return false;
+    }
+    if b == SPACE {
+        return true;
+    }
+    if b == LINE_FEED {
+        return true;
+    }
+    if b == CARRIAGE_RETURN {
+        return true;
+    }
+    if b == TAB {
+        return true;
+    }
+    false
+}
+
+// A place after `at` up to which there are spaces only: all of them where eight bytes more stand there.
+fn spaces(s: &[u8], at: usize) -> usize
+    requires { ⌜ at ≤ length (now s) ⌝ }
+    ensures { λ r. ⌜ Passed spaceByte (now (s .entry)) at r ⌝ }
+{
+    let mut i = at;
+    while s.len() - i >= 8 {
+        let w = bits::load8(s, i) ^ SPACES;
+        if w != 0 {
+            return i + zero_bytes(w);
+        }
+        i += 8;
+    }
+    i
+}
+
+// The end of the blanks from `at` on, one blank and the spaces after it at a time.
+fn blanks(s: &[u8], at: usize) -> usize
+    requires { ⌜ at ≤ length (now s) ⌝ }
+    ensures { λ r. ⌜ Run blank (now (s .entry)) at r ⌝ }
+{
+    let mut i = at;
+    while i < s.len() {
+        if !is_blank(s[i]) {
+            return i;
+        }
+        i = spaces(s, i + 1);
+    }
+    i
+}
+
+// The end of the blanks from `at` on.
+pub fn blank_run(s: &[u8], at: usize) -> usize
+    requires { ⌜ at ≤ length (now s) ⌝ }
+    ensures { λ r. ⌜ Run blank (now (s .entry)) at r ⌝ }
+{
+    if at < s.len() {
+        if s[at] > SPACE {
+            return at;
+        }
+    }
+    blanks(s, at)
+}

@@ -1,0 +1,4 @@
+pub mod Ahead
+pub mod AheadLaws
+pub mod ValueLaws
+pub mod Walks

@@ -1,0 +1,1 @@
+// What is ahead of a walk: definitions and laws only, in specs/.
