@@ -1,0 +1,94 @@
+//! What is asked of each record.
+
+/// A query on a record: its steps, and a program of jq that gives the same nodes.
+pub struct Job {
+    pub record: &'static str,
+    /// What the query is an example of.
+    pub kind: &'static str,
+    pub steps: &'static [&'static str],
+    pub jq: &'static str,
+}
+
+impl Job {
+    pub fn query(&self) -> String {
+        format!("${}", self.steps.concat())
+    }
+}
+
+/// The kinds of queries.
+const CHECK: &str = "check";
+pub const PLAIN: &str = "plain";
+const DEEP: &str = "deep";
+const STAR: &str = "everything";
+const DEAD: &str = "mostly dead";
+
+const ALL_BELOW: &str = ".. | .[]?";
+
+const fn job(
+    record: &'static str,
+    kind: &'static str,
+    steps: &'static [&'static str],
+    jq: &'static str,
+) -> Job {
+    Job { record, kind, steps, jq }
+}
+
+/// The nodes `t` below some `blend`: below the outermost ones, since those hold the others.
+const T_BELOW_BLEND: &str = r#"
+    def below: .. | objects | select(has("t")) | .t;
+    def outermost:
+        if type == "object" then to_entries[] | .key as $key | .value
+            | if $key == "blend" then below else outermost end
+        elif type == "array" then .[] | outermost
+        else empty end;
+    outermost"#;
+
+/// Five queries on each record.
+pub const JOBS: [Job; 20] = [
+    job("feed", CHECK, &[], "."),
+    job("feed", PLAIN, &[".statuses", ".*", ".user", ".name"], ".statuses[].user.name"),
+    job("feed", DEEP, &["..id"], r#".. | objects | select(has("id")) | .id"#),
+    job("feed", STAR, &["..*"], ALL_BELOW),
+    job("feed", DEAD, &[".search_metadata", ".count"], ".search_metadata.count"),
+    job("numbers", CHECK, &[], "."),
+    job("numbers", PLAIN, &[".*", ".coordinates", ".*", ".*"], ".[].coordinates[][]"),
+    job("numbers", DEEP, &["..area"], r#".. | objects | select(has("area")) | .area"#),
+    job("numbers", STAR, &["..*"], ALL_BELOW),
+    job("numbers", DEAD, &[".*", ".area"], ".[].area"),
+    job("deep", CHECK, &[], "."),
+    job("deep", PLAIN, &[".*", ".blend", ".t"], ".[] | objects | .blend | objects | .t | numbers"),
+    job("deep", DEEP, &["..blend", "..t"], T_BELOW_BLEND),
+    job("deep", STAR, &["..*"], ALL_BELOW),
+    job("deep", DEAD, &[".*", ".t"], ".[] | objects | .t"),
+    job("tiny", CHECK, &[], "."),
+    job("tiny", PLAIN, &[".*", ".n0"], ".[].n0"),
+    job("tiny", DEEP, &["..k"], r#".. | objects | select(has("k")) | .k"#),
+    job("tiny", STAR, &["..*"], ALL_BELOW),
+    job("tiny", DEAD, &[".*", ".lot"], r#".[] | select(has("lot")) | .lot"#),
+];
+
+/// The queries that are asked of the record of 1 KB, a feed.
+pub const SHORT_JOBS: [Job; 2] = [
+    job("short", PLAIN, &[".statuses", ".*", ".user", ".name"], ""),
+    job("short", DEEP, &["..id"], ""),
+];
+
+#[cfg(test)]
+mod tests {
+    use super::*;
+    use records::large::ALL;
+
+    /// Every job names a record that is made, and its query is taken and finds something.
+    #[test]
+    fn every_job() {
+        for (name, generator) in ALL {
+            let record = generator(300_000);
+            let jobs: Vec<&Job> = JOBS.iter().filter(|job| job.record == name).collect();
+            assert!(jobs.iter().map(|job| job.kind).eq([CHECK, PLAIN, DEEP, STAR, DEAD]));
+            for job in jobs {
+                let nodes = woodcrock::list(job.query().as_bytes(), &record).map(|list| list.len());
+                assert!(nodes.is_ok_and(|nodes| nodes > 0), "{}", job.query());
+            }
+        }
+    }
+}

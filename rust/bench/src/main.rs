@@ -1,0 +1,223 @@
+//! Measures the library beside other readers of JSON that do the same job, and writes
+//! docs/BENCHMARK.md and docs/benchmark.svg: `bench [--size BYTES] [--rounds N] [--out FOLDER]`.
+
+mod clock;
+mod engines;
+mod jobs;
+mod page;
+mod picture;
+
+use clock::Effort;
+use engines::Engine;
+use jobs::{Job, JOBS, SHORT_JOBS};
+use records::large;
+use std::hint::black_box;
+use std::path::{Path, PathBuf};
+use std::process::{Command, ExitCode};
+use std::{env, fs};
+use woodcrock::{find_value, Ground, Walk};
+
+/// How long one engine is measured on one job in one round.
+const EFFORT: Effort = Effort { milliseconds: 200, batch: 1 };
+/// The same on the record of 1 KB.
+const SHORT_EFFORT: Effort = Effort { milliseconds: 30, batch: 200 };
+const SHORT: usize = 1_000;
+const ROUNDS: u32 = 3;
+
+struct Options {
+    size: usize,
+    rounds: u32,
+    out: PathBuf,
+}
+
+/// What was measured of one job: the nodes, and for each engine the best time or why there is none.
+pub struct Measured {
+    pub job: &'static Job,
+    pub bytes: usize,
+    pub nodes: usize,
+    pub times: Vec<Result<f64, String>>,
+}
+
+/// The parts of one record's listing.
+pub struct Parts {
+    pub record: &'static str,
+    /// The check alone: the record with one byte too many is refused at its last byte.
+    pub check: f64,
+    /// The value finder at the root.
+    pub find: f64,
+}
+
+/// All that is written down.
+pub struct Results {
+    pub engines: Vec<Engine>,
+    pub left_out: Vec<(&'static str, String)>,
+    pub large: Vec<Measured>,
+    pub short: Vec<Measured>,
+    pub parts: Vec<Parts>,
+    /// The smallest stack of each call, as the comparison prints it.
+    pub stack: String,
+    pub rounds: u32,
+}
+
+/// A record, also as a file for the peers.
+struct Record {
+    name: &'static str,
+    bytes: Vec<u8>,
+    file: PathBuf,
+}
+
+fn options() -> Option<Options> {
+    let top = Path::new(env!("CARGO_MANIFEST_DIR")).ancestors().nth(2)?;
+    let mut options = Options { size: large::LARGE, rounds: ROUNDS, out: top.join("docs") };
+    let mut arguments = env::args().skip(1);
+    while let Some(argument) = arguments.next() {
+        match argument.as_str() {
+            "--size" => options.size = arguments.next()?.parse().ok()?,
+            "--rounds" => options.rounds = arguments.next()?.parse().ok()?,
+            "--out" => options.out = arguments.next()?.into(),
+            _ => return None,
+        }
+    }
+    Some(options)
+}
+
+/// Makes the four records and the one of 1 KB.
+fn records(size: usize, folder: &Path) -> Result<Vec<Record>, String> {
+    let short: (&str, large::Generator) = ("short", large::feed);
+    let mut records = Vec::new();
+    for (name, generator) in large::ALL.into_iter().chain([short]) {
+        let bytes = generator(if name == "short" { SHORT } else { size });
+        let file = folder.join(format!("{name}.json"));
+        fs::write(&file, &bytes).map_err(|fault| format!("{}: {fault}", file.display()))?;
+        records.push(Record { name, bytes, file });
+    }
+    Ok(records)
+}
+
+/// One round of one job on every engine that has not failed on it; each keeps its best time.
+fn round(
+    measured: &mut Measured,
+    engines: &[Engine],
+    record: &Record,
+    effort: Effort,
+    list: &mut [u32],
+) -> Result<(), String> {
+    for (engine, time) in engines.iter().zip(&mut measured.times) {
+        let Ok(best) = time else { continue };
+        match engine.count(measured.job, &record.bytes, &record.file, effort, list) {
+            Err(reason) if engine.is_library() => return Err(reason),
+            Err(reason) => *time = Err(reason),
+            Ok(count) if engine.is_library() && best.is_infinite() => {
+                measured.nodes = count.nodes;
+                *best = count.nanoseconds;
+            }
+            Ok(count) if count.nodes != measured.nodes => {
+                let (name, query) = (engine.name, measured.job.query());
+                let (found, wanted) = (count.nodes, measured.nodes);
+                return Err(format!("{name} counts {found} nodes for {query}, not {wanted}"));
+            }
+            Ok(count) => *best = best.min(count.nanoseconds),
+        }
+    }
+    Ok(())
+}
+
+/// Measures all jobs, the engines in turn.
+fn measure(
+    jobs: &'static [Job],
+    engines: &[Engine],
+    records: &[Record],
+    effort: Effort,
+    rounds: u32,
+) -> Result<Vec<Measured>, String> {
+    let mut all = Vec::new();
+    for job in jobs {
+        let record = records.iter().find(|record| record.name == job.record);
+        let record = record.expect("each job names a record");
+        let times = engines.iter().map(|_| Ok(f64::INFINITY)).collect();
+        let mut measured = Measured { job, bytes: record.bytes.len(), nodes: 0, times };
+        let mut list = vec![0; record.bytes.len() + 1];
+        for _ in 0..rounds {
+            round(&mut measured, engines, record, effort, &mut list)?;
+        }
+        eprintln!("{} {}: {} nodes", job.record, job.query(), measured.nodes);
+        all.push(measured);
+    }
+    Ok(all)
+}
+
+/// The check alone and the value finder, on each large record.
+fn parts(records: &[Record], rounds: u32) -> Result<Vec<Parts>, String> {
+    let mut all = Vec::new();
+    for Record { name, bytes, .. } in records.iter().filter(|record| record.name != "short") {
+        let longer = [bytes.as_slice(), b"!"].concat();
+        let refusal = Walk::Jumping.list_into(b"$", &longer, &mut []);
+        let at_its_end = (Ground::RecordMalformed, bytes.len());
+        if refusal.map_err(|refusal| (refusal.ground, refusal.place)) != Err(at_its_end) {
+            return Err(format!("{name} with a byte too many is not refused at its end"));
+        }
+        let mut parts = Parts { record: name, check: f64::INFINITY, find: f64::INFINITY };
+        for _ in 0..rounds {
+            let check = clock::best(EFFORT, || {
+                let _ = black_box(Walk::Jumping.list_into(b"$", &longer, &mut []));
+            });
+            let find = clock::best(EFFORT, || {
+                let _ = black_box(find_value(bytes, 0));
+            });
+            (parts.check, parts.find) = (parts.check.min(check), parts.find.min(find));
+        }
+        all.push(parts);
+    }
+    Ok(all)
+}
+
+/// What the comparison prints of the stack of each call at 512 levels.
+fn stack() -> Result<String, String> {
+    let mut command = Command::new(env::var_os("CARGO").unwrap_or("cargo".into()));
+    command.current_dir(env!("CARGO_MANIFEST_DIR"));
+    command.args(["run", "--quiet", "--release", "--offline", "--package", "differential", "--"]);
+    engines::output(command.arg("--measure-stack"))
+}
+
+fn run(options: &Options) -> Result<(), String> {
+    let program = env::current_exe().map_err(|fault| fault.to_string())?;
+    let folder = program.with_file_name("bench-files");
+    fs::create_dir_all(&folder).map_err(|fault| fault.to_string())?;
+    let (mut engines, mut left_out) = (Vec::new(), Vec::new());
+    for found in engines::all(&folder) {
+        match found {
+            Ok(engine) => engines.push(engine),
+            Err((name, reason)) => {
+                eprintln!("{name} is left out: {reason}");
+                left_out.push((name, reason));
+            }
+        }
+    }
+    let records = records(options.size, &folder)?;
+    let rounds = options.rounds;
+    let large = measure(&JOBS, &engines, &records, EFFORT, rounds)?;
+    let short = measure(&SHORT_JOBS, &engines, &records, SHORT_EFFORT, rounds)?;
+    let (parts, stack) = (parts(&records, rounds)?, stack()?);
+    let results = Results { engines, left_out, large, short, parts, stack, rounds };
+    for (name, text) in
+        [("BENCHMARK.md", page::page(&results)), ("benchmark.svg", picture::picture(&results))]
+    {
+        let path = options.out.join(name);
+        fs::write(&path, text).map_err(|fault| format!("{}: {fault}", path.display()))?;
+    }
+    Ok(())
+}
+
+fn main() -> ExitCode {
+    let Some(options) = options() else {
+        eprintln!("usage: bench [--size BYTES] [--rounds N] [--out FOLDER]");
+        return ExitCode::from(2);
+    };
+    match run(&options) {
+        Ok(()) => ExitCode::SUCCESS,
+        Err(fault) => {
+            eprintln!("{fault}");
+            ExitCode::FAILURE
+        }
+    }
+}

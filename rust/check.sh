@@ -1,0 +1,19 @@
+#!/usr/bin/env bash
+# Everything outside Rattle: makes the static library anew, then runs the tests of the Rust side and
+# of the example in C against it. A tool that is missing, or a library that was not made, fails.
+set -euo pipefail
+cd "$(dirname "$0")/.."
+
+for tool in rt cargo cc; do
+    command -v "$tool" > /dev/null || { echo "check.sh: $tool is missing" >&2; exit 1; }
+done
+
+# Only the library of this repository, made now, is to be linked.
+unset WOODCROCK_LIBRARY
+rm -f target/staticlib/libwoodcrock_c.a
+rt staticlib woodcrock_c
+
+cd rust
+cargo test --locked --offline --workspace
+# Random cases beyond those of the tests, from a seed of their own.
+cargo run --locked --offline --release --package differential -- --seed 2 --cases 200000

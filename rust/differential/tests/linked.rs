@@ -1,0 +1,92 @@
+//! The calls that are linked in, with a fixed seed and a bounded number of cases.
+
+use differential::{
+    blocks, deep, long, random, samples, short, Comparison, Counts, Linked, Mismatch, DEEP_CALLS,
+    SMALL_STACK,
+};
+use std::ptr::{null, null_mut, NonNull};
+use woodcrock::sys::{
+    woodcrock_find_value, woodcrock_list_jumping, woodcrock_list_plain, woodcrock_sort_block,
+    Lister,
+};
+
+const SEED: u64 = 1;
+const CASES: u64 = 20_000;
+
+/// Runs a comparison of the linked calls and gives back its counts.
+fn compared(run: impl Fn(&mut Comparison) -> Result<(), Mismatch>) -> Counts {
+    let mut comparison = Comparison::new(&Linked);
+    if let Err(mismatch) = run(&mut comparison) {
+        panic!("{mismatch}");
+    }
+    comparison.counts
+}
+
+#[test]
+fn random_cases() {
+    let counts = compared(|comparison| random(comparison, SEED, CASES));
+    println!("{counts}");
+    assert!([0, 1, 2, 3, 5, 6, 7].iter().all(|&ground: &usize| counts.lists[ground] > 20));
+    assert!([0, 5, 6, 8].iter().all(|&ground: &usize| counts.finds[ground] > 20));
+    assert!(counts.highest_peak > 300 && counts.sorts > 1_000);
+}
+
+#[test]
+fn sample_rows_and_long_names() {
+    let counts = compared(samples);
+    assert!([0, 2, 5].iter().all(|&ground: &usize| counts.lists[ground] > 0));
+}
+
+#[test]
+fn short_inputs() {
+    let counts = compared(short);
+    assert!(counts.lists[0] > 100 && counts.lists[2] > 1_000 && counts.lists[5] > 1_000);
+}
+
+#[test]
+fn random_blocks() {
+    assert_eq!(compared(|comparison| blocks(comparison, SEED, CASES)).sorts, 4 * CASES);
+}
+
+#[test]
+fn records_at_the_limit_of_length() {
+    let counts = compared(long);
+    assert!([0, 2, 4, 5, 6].iter().all(|&ground: &usize| counts.lists[ground] > 0));
+    assert!([0, 4, 5, 6, 8].iter().all(|&ground: &usize| counts.finds[ground] > 0));
+}
+
+#[test]
+fn nesting_at_its_limit_on_a_small_stack() {
+    for (_, call) in DEEP_CALLS {
+        if let Err(mismatch) = deep(&Linked, call, SMALL_STACK) {
+            panic!("{mismatch}");
+        }
+    }
+}
+
+/// An empty part is any pointer with length 0: NULL, and one that points nowhere.
+#[test]
+fn empty_parts() {
+    let (nowhere, nowhere_mut) = (NonNull::<u8>::dangling().as_ptr(), NonNull::<u32>::dangling());
+    for bytes in [null(), nowhere.cast_const()] {
+        for list in [null_mut(), nowhere_mut.as_ptr()] {
+            for lister in [woodcrock_list_plain as Lister, woodcrock_list_jumping] {
+                // SAFETY: every length goes with its pointer.
+                let none = unsafe { lister(bytes, 0, bytes, 0, list, 0) };
+                assert_eq!((none.ground, none.place, none.pairs, none.peak), (2, 0, 0, 0));
+                let query = b"$";
+                let no_record = unsafe { lister(query.as_ptr(), 1, bytes, 0, list, 0) };
+                assert_eq!((no_record.ground, no_record.place), (5, 0));
+                let record = b" 7";
+                let no_list = unsafe { lister(query.as_ptr(), 1, record.as_ptr(), 2, list, 0) };
+                assert_eq!((no_list.ground, no_list.place, no_list.pairs), (7, 1, 0));
+            }
+        }
+        // SAFETY: as above.
+        let value = unsafe { woodcrock_find_value(bytes, 0, 3) };
+        assert_eq!((value.ground, value.place, value.end), (5, 0, 0));
+        let words = unsafe { woodcrock_sort_block(bytes, 0, true, true) };
+        assert_eq!((words.quotes, words.strings, words.opening, words.closing), (0, 0, 0, 0));
+        assert!(words.inside && words.odd);
+    }
+}

@@ -1,0 +1,338 @@
+//! The comparison has to notice wrong engines: each one here is the independent implementation with
+//! one fault, and each fault has to be found within the number of cases that the tests run.
+
+use differential::{blocks, deep, long, random, Comparison, DeepCall, Engine, Mismatch};
+use oracle::{Answer, Refusal, Selector, Step, Tree, Value, Words};
+
+const CASES: u64 = 10_000;
+
+type List = fn(&[u8], &[u8], &mut [u32]) -> Answer;
+type Sort = fn(&[u8], bool, bool) -> Words;
+
+/// An engine with a fault in one of its calls.
+struct Mutant {
+    plain: List,
+    jumping: List,
+    find: fn(&[u8], usize) -> Value,
+    sort: Sort,
+}
+
+const RIGHT: Mutant = Mutant {
+    plain: oracle::list,
+    jumping: oracle::list,
+    find: oracle::find_value,
+    sort: oracle::sort_block,
+};
+
+impl Engine for Mutant {
+    fn list_plain(&self, query: &[u8], record: &[u8], list: &mut [u32]) -> Answer {
+        (self.plain)(query, record, list)
+    }
+
+    fn list_jumping(&self, query: &[u8], record: &[u8], list: &mut [u32]) -> Answer {
+        (self.jumping)(query, record, list)
+    }
+
+    fn find_value(&self, record: &[u8], offset: usize) -> Value {
+        (self.find)(record, offset)
+    }
+
+    fn sort_block(&self, rest: &[u8], inside: bool, odd: bool) -> Words {
+        (self.sort)(rest, inside, odd)
+    }
+}
+
+/// Random cases and random blocks, as the tests of the linked calls run them.
+fn compare(mutant: &Mutant) -> Result<(), Mismatch> {
+    let mut comparison = Comparison::new(mutant);
+    random(&mut comparison, 1, CASES)?;
+    blocks(&mut comparison, 1, CASES)
+}
+
+/// Asserts that a fault is found in this call.
+fn found_in(call: &str, mutant: Mutant) {
+    match compare(&mutant) {
+        Err(mismatch) => assert_eq!(mismatch.call, call, "{mismatch}"),
+        Ok(()) => panic!("a fault of {call} was not found"),
+    }
+}
+
+/// Asserts that the fault is found in either walk.
+fn found_in_lists(list: List) {
+    found_in("list_plain", Mutant { plain: list, ..RIGHT });
+    found_in("list_jumping", Mutant { jumping: list, ..RIGHT });
+}
+
+/// The lister with other nodes in the place of those that are picked out.
+fn with_nodes(
+    query: &[u8],
+    record: &[u8],
+    list: &mut [u32],
+    nodes: impl Fn(&Tree, &[Step], Vec<(u32, u32)>) -> Vec<(u32, u32)>,
+) -> Answer {
+    match oracle::picks(query, record) {
+        Err(Refusal { ground, place }) => Answer { ground, place: place as u32, pairs: 0, peak: 0 },
+        Ok(mut picks) => {
+            let steps = oracle::taken_steps(query).unwrap();
+            picks.pairs = nodes(&Tree::of(record).unwrap(), &steps, picks.pairs);
+            picks.write(list)
+        }
+    }
+}
+
+#[test]
+fn passing_over_the_second_member_of_a_name() {
+    found_in_lists(|query, record, list| {
+        with_nodes(query, record, list, |tree, _, pairs| {
+            let second = |start: u32| {
+                let node = tree.nodes.iter().find(|node| node.start == start).unwrap();
+                let mut same = tree.nodes.iter().filter(|other| {
+                    other.parent == node.parent && other.name_in(record) == node.name_in(record)
+                });
+                node.name.is_some() && same.next().unwrap().start < start
+            };
+            pairs.into_iter().filter(|&(start, _)| !second(start)).collect()
+        })
+    });
+}
+
+#[test]
+fn listing_a_node_once_for_each_way_to_it() {
+    found_in_lists(|query, record, list| {
+        with_nodes(query, record, list, |tree, steps, pairs| {
+            let ways = |start: u32| {
+                let index = tree.nodes.iter().position(|node| node.start == start).unwrap();
+                ways(steps, record, tree, index)
+            };
+            pairs.into_iter().flat_map(|pair| vec![pair; ways(pair.0)]).collect()
+        })
+    });
+}
+
+/// In how many ways the steps reach a node, up to a few.
+fn ways(steps: &[Step], record: &[u8], tree: &Tree, index: usize) -> usize {
+    let node = &tree.nodes[index];
+    let Some((last, before)) = steps.split_last() else {
+        return usize::from(node.parent.is_none());
+    };
+    if !oracle::takes(last, record, node) {
+        return 0;
+    }
+    let mut all = 0;
+    let mut above = node.parent;
+    while let Some(parent) = above {
+        all += ways(before, record, tree, parent as usize);
+        above = tree.nodes[parent as usize].parent;
+        if !last.deep || all > 3 {
+            break;
+        }
+    }
+    all
+}
+
+#[test]
+fn matching_the_beginning_of_a_name() {
+    found_in_lists(|query, record, list| {
+        with_nodes(query, record, list, |tree, steps, pairs| match steps {
+            [Step { deep: true, selector: Selector::Name(name), .. }] => {
+                let begins = |bytes: Option<&[u8]>| bytes.is_some_and(|b| b.starts_with(name));
+                let nodes = tree.nodes.iter().filter(|node| begins(node.name_in(record)));
+                nodes.map(|node| (node.start, node.end)).collect()
+            }
+            _ => pairs,
+        })
+    });
+}
+
+#[test]
+fn useless_walkers() {
+    // One that refuses each record.
+    found_in_lists(|_, _, _| Answer { ground: 5, place: 0, pairs: 0, peak: 0 });
+    // One that always reports no nodes.
+    found_in_lists(|query, record, list| with_nodes(query, record, list, |_, _, _| Vec::new()));
+    // One that writes nothing.
+    found_in_lists(|query, record, list| oracle::list(query, record, &mut list.to_vec()));
+    // One that lists the first node and stops.
+    found_in_lists(|query, record, list| {
+        with_nodes(query, record, list, |_, _, pairs| pairs.into_iter().take(1).collect())
+    });
+    // One with an invented peak.
+    found_in_lists(|query, record, list| {
+        let answer = oracle::list(query, record, list);
+        Answer { peak: answer.pairs.min(1), ..answer }
+    });
+    // One that reports ground 7 before it has filled the list.
+    found_in_lists(|query, record, list| {
+        let pairs = list.len() / 2;
+        oracle::list(query, record, &mut list[..pairs.saturating_sub(1) * 2])
+    });
+}
+
+#[test]
+fn a_peak_that_does_not_fit_into_eight_bits() {
+    found_in_lists(|query, record, list| {
+        let answer = oracle::list(query, record, list);
+        Answer { peak: answer.peak % 256, ..answer }
+    });
+}
+
+#[test]
+fn a_list_that_is_cleared_beyond_the_pairs() {
+    found_in_lists(|query, record, list| {
+        let answer = oracle::list(query, record, list);
+        if let Some(last) = list[2 * answer.pairs as usize..].last_mut() {
+            *last = 0;
+        }
+        answer
+    });
+}
+
+#[test]
+fn a_peak_in_a_refusal() {
+    found_in_lists(|query, record, list| {
+        let answer = oracle::list(query, record, list);
+        let peak = oracle::picks(query, record).map_or(0, |picks| picks.peak);
+        Answer { peak, ..answer }
+    });
+}
+
+#[test]
+fn a_limit_of_nesting_that_is_one_too_low() {
+    found_in_lists(|query, record, list| {
+        let level = oracle::first_bracket_of_level(record, oracle::MAX_LEVELS);
+        match (oracle::list(query, record, &mut list.to_vec()), level) {
+            (Answer { ground: 0 | 7, .. }, Some(place)) => {
+                Answer { ground: 6, place: place as u32, pairs: 0, peak: 0 }
+            }
+            _ => oracle::list(query, record, list),
+        }
+    });
+}
+
+#[test]
+fn ground_5_before_ground_6_whatever_the_places() {
+    found_in_lists(|query, record, list| match oracle::list(query, record, list) {
+        answer @ Answer { ground: 6, .. } => match oracle::dead_byte(record) {
+            Some(place) => Answer { ground: 5, place: place as u32, ..answer },
+            None => answer,
+        },
+        answer => answer,
+    });
+}
+
+#[test]
+fn faults_of_the_finder() {
+    let found = |find| found_in("find_value", Mutant { find, ..RIGHT });
+    // A member's name taken for a value.
+    found(|record, offset| match oracle::find_value(record, offset) {
+        Value { ground: 8, .. } if record.get(offset) == Some(&b'"') => {
+            Value { ground: 0, place: 0, end: offset + 1 }
+        }
+        value => value,
+    });
+    // An offset cut to 32 bits, before the search and in the answer.
+    found(|record, offset| oracle::find_value(record, offset as u32 as usize));
+    found(|record, offset| match oracle::find_value(record, offset) {
+        Value { ground: 8, place, end } => Value { ground: 8, place: place as u32 as usize, end },
+        value => value,
+    });
+}
+
+/// Faults of the sorter.
+const WRONG_SORTERS: [Sort; 5] = [
+    // A run of backslashes forgotten at the block's edge, on either side.
+    |rest, inside, _| oracle::sort_block(rest, inside, false),
+    |rest, inside, odd| Words { odd: false, ..oracle::sort_block(rest, inside, odd) },
+    // A string forgotten at the block's edge.
+    |rest, inside, odd| Words { inside: false, ..oracle::sort_block(rest, inside, odd) },
+    // A quote taken as escaped because one backslash stands before it.
+    |rest, inside, odd| {
+        let mut bytes = rest.to_vec();
+        for at in 1..bytes.len() {
+            if bytes[at - 1..=at] == *b"\\\\" {
+                bytes[at - 1] = b'x';
+            }
+        }
+        oracle::sort_block(&bytes, inside, odd)
+    },
+    // Bytes after the block read as well.
+    |rest, inside, odd| {
+        let words = oracle::sort_block(rest, inside, odd);
+        let next = oracle::sort_block(rest.get(64..).unwrap_or(&[]), words.inside, words.odd);
+        Words { inside: next.inside, ..words }
+    },
+];
+
+#[test]
+fn faults_of_the_sorter() {
+    for sort in WRONG_SORTERS {
+        found_in("sort_block", Mutant { sort, ..RIGHT });
+    }
+}
+
+/// The end of the container that starts here, by the words of its blocks.
+fn end_by_blocks(record: &[u8], start: usize, sort: Sort) -> Option<u32> {
+    let (mut inside, mut odd, mut depth) = (false, false, 0);
+    for at in (start..record.len()).step_by(64) {
+        let words = sort(&record[at..], inside, odd);
+        for bit in 0..64 {
+            depth += (words.opening >> bit & 1) as i32 - (words.closing >> bit & 1) as i32;
+            if depth == 0 {
+                return Some((at + bit + 1) as u32);
+            }
+        }
+        (inside, odd) = (words.inside, words.odd);
+    }
+    None
+}
+
+/// A walk that jumps over each dead container by this sorter, and lists nothing if it goes astray.
+fn jumping_by(sort: Sort, query: &[u8], record: &[u8], list: &mut [u32]) -> Answer {
+    with_nodes(query, record, list, |tree, steps, pairs| {
+        let marks = oracle::marks(steps, record, tree);
+        let is_dead = |index: usize| marks.iter().all(|marked| !marked[index]);
+        let astray = tree.nodes.iter().enumerate().any(|(index, node)| {
+            node.kind.is_container()
+                && node.parent.is_some_and(|parent| is_dead(index) && !is_dead(parent as usize))
+                && end_by_blocks(record, node.start as usize, sort) != Some(node.end)
+        });
+        if astray {
+            return Vec::new();
+        }
+        pairs
+    })
+}
+
+#[test]
+fn faults_of_a_jump_by_blocks() {
+    let right: List = |q, r, l| jumping_by(oracle::sort_block, q, r, l);
+    assert!(compare(&Mutant { jumping: right, ..RIGHT }).is_ok());
+    let wrong: [List; 4] = [
+        |q, r, l| jumping_by(WRONG_SORTERS[0], q, r, l),
+        |q, r, l| jumping_by(WRONG_SORTERS[1], q, r, l),
+        |q, r, l| jumping_by(WRONG_SORTERS[2], q, r, l),
+        |q, r, l| jumping_by(WRONG_SORTERS[3], q, r, l),
+    ];
+    for jumping in wrong {
+        found_in("list_jumping", Mutant { jumping, ..RIGHT });
+    }
+}
+
+#[test]
+fn a_limit_of_length_that_is_one_too_high() {
+    let list: List = |query, record, list| match oracle::list(query, record, list) {
+        Answer { ground: 4, .. } if record.len() == oracle::MAX_RECORD + 1 => {
+            oracle::list(query, &record[..oracle::MAX_RECORD], list)
+        }
+        answer => answer,
+    };
+    let mutant = Mutant { jumping: list, ..RIGHT };
+    assert_eq!(long(&mut Comparison::new(&mutant)).unwrap_err().call, "list_jumping");
+}
+
+#[test]
+fn a_wrong_answer_on_a_small_stack() {
+    let mutant = Mutant { find: |_, offset| Value { ground: 8, place: offset, end: 0 }, ..RIGHT };
+    assert!(deep(&mutant, DeepCall::Find, differential::SMALL_STACK).is_err());
+    assert!(deep(&mutant, DeepCall::Plain, differential::SMALL_STACK).is_ok());
+}

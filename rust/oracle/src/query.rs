@@ -1,0 +1,156 @@
+//! The part of RFC 9535 that document 01 states ("The part of RFC 9535"), and grounds 1 to 3.
+
+use crate::answers::Refusal;
+use crate::utf8::code_point;
+
+/// The most bytes of a query that is taken.
+pub const MAX_QUERY: usize = 1_024;
+/// The most steps of a query that is taken.
+pub const MAX_STEPS: usize = 16;
+
+/// What a step takes from a node: every child, or the members of a name.
+#[derive(Clone, PartialEq, Eq, Debug)]
+pub enum Selector {
+    Every,
+    Name(Vec<u8>),
+}
+
+/// A step of a query, with the place of the `.` or `[` that begins it.
+#[derive(Clone, PartialEq, Eq, Debug)]
+pub struct Step {
+    pub deep: bool,
+    pub selector: Selector,
+    pub place: usize,
+}
+
+/// The blanks of a query, hexadecimal 20, 09, 0A and 0D.
+fn is_blank(byte: u8) -> bool {
+    matches!(byte, 0x20 | 0x09 | 0x0A | 0x0D)
+}
+
+/// A letter, `_` or the first byte of a code point from 80 (hexadecimal) on.
+fn begins_name(byte: u8) -> bool {
+    byte.is_ascii_alphabetic() || byte == b'_' || byte >= 0x80
+}
+
+/// The place at which the reading cannot go on: a dead byte, or the length.
+type Stop = usize;
+
+struct Reading<'a> {
+    query: &'a [u8],
+    at: usize,
+}
+
+impl Reading<'_> {
+    fn peek(&self) -> Option<u8> {
+        self.query.get(self.at).copied()
+    }
+
+    /// Passes this byte, if it stands here.
+    fn passes(&mut self, byte: u8) -> bool {
+        let here = self.peek() == Some(byte);
+        self.at += usize::from(here);
+        here
+    }
+
+    fn blanks(&mut self) {
+        while self.peek().is_some_and(is_blank) {
+            self.at += 1;
+        }
+    }
+
+    /// `$` and then steps. Blanks that stand at the end call for one step more.
+    fn query(&mut self) -> Result<Vec<Step>, Stop> {
+        if !self.passes(b'$') {
+            return Err(self.at);
+        }
+        let mut steps = Vec::new();
+        while self.peek().is_some() {
+            self.blanks();
+            steps.push(self.step()?);
+        }
+        Ok(steps)
+    }
+
+    /// `.` or `..` and a shorthand name or `*`; or a pair of brackets, with or without `..`.
+    fn step(&mut self) -> Result<Step, Stop> {
+        let place = self.at;
+        let dot = self.passes(b'.');
+        let deep = dot && self.passes(b'.');
+        let bracket = (deep || !dot) && self.passes(b'[');
+        let selector = if bracket {
+            self.bracketed()?
+        } else if dot {
+            self.shorthand()?
+        } else {
+            return Err(self.at);
+        };
+        Ok(Step { deep, selector, place })
+    }
+
+    /// A shorthand name or `*`, directly after the dots.
+    fn shorthand(&mut self) -> Result<Selector, Stop> {
+        if self.passes(b'*') {
+            return Ok(Selector::Every);
+        }
+        let start = self.at;
+        if !self.peek().is_some_and(begins_name) {
+            return Err(self.at);
+        }
+        while self.peek().is_some_and(|byte| begins_name(byte) || byte.is_ascii_digit()) {
+            self.at = code_point(self.query, self.at)?;
+        }
+        Ok(Selector::Name(self.query[start..self.at].to_vec()))
+    }
+
+    /// What stands in brackets after the opening one: one quoted name or one `*`, blanks around
+    /// it, and the closing bracket.
+    fn bracketed(&mut self) -> Result<Selector, Stop> {
+        self.blanks();
+        let selector = match self.peek() {
+            Some(b'*') => {
+                self.at += 1;
+                Selector::Every
+            }
+            Some(quote @ (b'\'' | b'"')) => self.quoted(quote)?,
+            _ => return Err(self.at),
+        };
+        self.blanks();
+        if !self.passes(b']') {
+            return Err(self.at);
+        }
+        Ok(selector)
+    }
+
+    /// A quoted name: no control below 20 (hexadecimal), no backslash, not its own quote.
+    fn quoted(&mut self, quote: u8) -> Result<Selector, Stop> {
+        self.at += 1;
+        let start = self.at;
+        while self.peek() != Some(quote) {
+            match self.peek() {
+                None | Some(0x00..=0x1F) | Some(b'\\') => return Err(self.at),
+                Some(_) => self.at = code_point(self.query, self.at)?,
+            }
+        }
+        let name = self.query[start..self.at].to_vec();
+        self.at += 1;
+        Ok(Selector::Name(name))
+    }
+}
+
+/// The steps of a query of the grammar, or its dead byte. The grammar knows no limits.
+pub fn read_steps(query: &[u8]) -> Result<Vec<Step>, usize> {
+    Reading { query, at: 0 }.query()
+}
+
+/// The steps of a query that is taken, or the first of grounds 1 to 3 that fits it.
+pub fn taken_steps(query: &[u8]) -> Result<Vec<Step>, Refusal> {
+    if query.len() > MAX_QUERY {
+        return Err(Refusal { ground: 1, place: MAX_QUERY });
+    }
+    let steps = read_steps(query).map_err(|place| Refusal { ground: 2, place })?;
+    match steps.get(MAX_STEPS) {
+        Some(step) => Err(Refusal { ground: 3, place: step.place }),
+        None => Ok(steps),
+    }
+}

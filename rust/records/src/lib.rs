@@ -1,0 +1,7 @@
+//! Records, queries and lists made from a seed: the same seed gives the same bytes everywhere.
+
+pub mod cases;
+pub mod large;
+mod random;
+
+pub use random::Random;

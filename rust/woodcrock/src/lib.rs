@@ -1,0 +1,232 @@
+//! JSONPath on JSON records, each answer proved.
+//!
+//! A query (a part of [RFC 9535](https://www.rfc-editor.org/rfc/rfc9535)) and a record
+//! ([RFC 8259](https://www.rfc-editor.org/rfc/rfc8259) in UTF-8) are lent as bytes. [`list`] gives
+//! back where in the record the nodes stand that the query picks out, or a [`Refusal`] that says
+//! why not and where. Nothing is copied or decoded.
+//!
+//! ```
+//! let record = br#"{"a": {"lot": 1}, "lot": [2, 3]}"#;
+//! let matches = woodcrock::list(b"$..lot", record)?;
+//! assert_eq!(matches.len(), 2);
+//! assert!(matches.ranges().eq([14..15, 25..31]));
+//! assert!(matches.values().eq([&b"1"[..], b"[2, 3]"]));
+//! # Ok::<(), woodcrock::Refusal>(())
+//! ```
+//!
+//! A query is `$` and then up to 16 steps: `.name`, `.*`, `['name']`, `["name"]` and `[*]` take from
+//! the node itself; with two dots, `..name`, `..*`, `..['name']` and `..[*]`, a step takes from the
+//! node and from every node below it. Each node is listed once, and the first bytes rise. Names are
+//! compared byte for byte as written between their quotes, and members that repeat a name all match.
+//!
+//! The calls are those of the static library `libwoodcrock_c.a`, which is proved to answer so for
+//! all bytes. Its C declarations ([`sys`]) owe it pointers of the stated lengths, an aligned list and
+//! no overlap; slices and borrows are that, so that no call of the functions here can break it. They
+//! use no memory but their stack, and [`list`] takes memory for its list.
+
+mod matches;
+mod refusal;
+pub mod sys;
+
+pub use matches::{Matches, Ranges, Values};
+pub use refusal::{Ground, Refusal};
+pub use sys::Words;
+
+/// The most bytes of a query that is taken.
+pub const MAX_QUERY: usize = 1_024;
+/// The most steps of a query that is taken.
+pub const MAX_STEPS: usize = 16;
+/// The most bytes of a record that is taken.
+pub const MAX_RECORD: usize = 16_777_216;
+/// The deepest level of nesting in a record that is taken.
+pub const MAX_LEVELS: usize = 512;
+/// The most bytes of a block.
+pub const BLOCK: usize = 64;
+
+/// A way through the record. Both give the same answers and leave the same list.
+#[derive(Clone, Copy, PartialEq, Eq, Hash, Default, Debug)]
+pub enum Walk {
+    /// Enters every container.
+    Plain,
+    /// Goes straight to the end of a container in which nothing can match.
+    #[default]
+    Jumping,
+}
+
+/// What a lister answers without a refusal.
+#[derive(Clone, Copy, PartialEq, Eq, Hash, Debug)]
+pub struct Listed {
+    /// How many pairs were written: how many nodes are picked out.
+    pub pairs: usize,
+    /// See [`Matches::peak`].
+    pub peak: u32,
+}
+
+/// A list has at first a pair for so many bytes of the record, and so many pairs more.
+const BYTES_TO_A_PAIR: usize = 8;
+const MORE_PAIRS: usize = 16;
+/// How many times as long a list gets that was too short. No value of n bytes has more than
+/// (n + 1) / 2 nodes, so that once is enough.
+const GROWTH: usize = 4;
+
+impl Walk {
+    /// Lists the nodes that a query picks out of a record.
+    ///
+    /// The list is as long as it has to be: a call that finds it too short is made again with a
+    /// longer one, so that [`Ground::ListFull`] never comes back.
+    ///
+    /// ```
+    /// use woodcrock::{Ground, Refusal, Walk};
+    ///
+    /// let matches = Walk::Plain.list(b"$.*", b"[3,[4]]")?;
+    /// assert!(matches.values().eq([&b"3"[..], b"[4]"]));
+    /// let refusal = Walk::Plain.list(b"$[0]", b"[3,[4]]").unwrap_err();
+    /// assert_eq!(refusal, Refusal { ground: Ground::QueryMalformed, place: 2 });
+    /// # Ok::<(), Refusal>(())
+    /// ```
+    pub fn list<'record>(
+        self,
+        query: &[u8],
+        record: &'record [u8],
+    ) -> Result<Matches<'record>, Refusal> {
+        let taken = record.len().min(MAX_RECORD);
+        let mut length = 2 * (taken / BYTES_TO_A_PAIR + MORE_PAIRS);
+        loop {
+            // Memory that is asked for as zeros is not touched before something is written there.
+            let mut numbers = vec![0; length];
+            match self.list_into(query, record, &mut numbers) {
+                Err(Refusal { ground: Ground::ListFull, .. }) => length *= GROWTH,
+                Err(refusal) => return Err(refusal),
+                Ok(Listed { pairs, peak }) => {
+                    numbers.truncate(2 * pairs);
+                    numbers.shrink_to_fit();
+                    return Ok(Matches { record, numbers, peak });
+                }
+            }
+        }
+    }
+
+    /// Lists the nodes that a query picks out of a record into a list that is lent: two numbers to
+    /// a node, its first byte and the byte after its last.
+    ///
+    /// On [`Ground::ListFull`] the list holds as many nodes as it has pairs. On any other refusal
+    /// nothing is written. Numbers beyond the pairs written, and an odd last one, keep what they
+    /// held. [`Ranges::of`] reads such a list.
+    ///
+    /// ```
+    /// use woodcrock::{Ground, Listed, Ranges, Refusal, Walk};
+    ///
+    /// let mut list = [7; 5];
+    /// let listed = Walk::Jumping.list_into(b"$.*", b"[3,[4]]", &mut list)?;
+    /// assert_eq!(listed, Listed { pairs: 2, peak: 1 });
+    /// assert_eq!(list, [1, 2, 3, 6, 7]);
+    /// assert!(Ranges::of(&list[..2 * listed.pairs]).eq([1..2, 3..6]));
+    ///
+    /// let mut list = [7; 3];
+    /// let refusal = Walk::Jumping.list_into(b"$.*", b"[3,[4]]", &mut list).unwrap_err();
+    /// assert_eq!(refusal, Refusal { ground: Ground::ListFull, place: 3 });
+    /// assert_eq!(list, [1, 2, 7]);
+    /// # Ok::<(), Refusal>(())
+    /// ```
+    pub fn list_into(
+        self,
+        query: &[u8],
+        record: &[u8],
+        list: &mut [u32],
+    ) -> Result<Listed, Refusal> {
+        let lister: sys::Lister = match self {
+            Walk::Plain => sys::woodcrock_list_plain,
+            Walk::Jumping => sys::woodcrock_list_jumping,
+        };
+        // SAFETY: each pointer is that of a slice, which is aligned, of that length and lives
+        // through the call; `list` is borrowed mutably, so that it overlaps neither of the others.
+        let answer = unsafe {
+            lister(
+                query.as_ptr(),
+                query.len(),
+                record.as_ptr(),
+                record.len(),
+                list.as_mut_ptr(),
+                list.len(),
+            )
+        };
+        Refusal::check(answer.ground, answer.place as usize)?;
+        Ok(Listed { pairs: answer.pairs as usize, peak: answer.peak })
+    }
+}
+
+/// Lists the nodes that a query picks out of a record, by the jumping walk: [`Walk::list`].
+///
+/// ```
+/// let record = br#"{"M":1,"M":2}"#;
+/// let ranges: Vec<_> = woodcrock::list(b"$.M", record)?.ranges().collect();
+/// assert_eq!(ranges, [5..6, 11..12]);
+///
+/// let refusal = woodcrock::list(b"$", b"[1,]").unwrap_err();
+/// assert_eq!((refusal.ground.number(), refusal.place), (5, 3));
+/// # Ok::<(), woodcrock::Refusal>(())
+/// ```
+pub fn list<'record>(query: &[u8], record: &'record [u8]) -> Result<Matches<'record>, Refusal> {
+    Walk::default().list(query, record)
+}
+
+/// Lists the nodes that a query picks out of a record into a list that is lent, by the jumping
+/// walk: [`Walk::list_into`].
+///
+/// ```
+/// let mut list = [0; 2];
+/// let listed = woodcrock::list_into(b"$ ['a' ]", br#"{"a":[]}"#, &mut list)?;
+/// assert_eq!((listed.pairs, list), (1, [5, 7]));
+/// # Ok::<(), woodcrock::Refusal>(())
+/// ```
+pub fn list_into(query: &[u8], record: &[u8], list: &mut [u32]) -> Result<Listed, Refusal> {
+    Walk::default().list_into(query, record, list)
+}
+
+/// The end of the value whose first byte stands at `offset`: the byte after its last.
+///
+/// ```
+/// use woodcrock::{find_value, Ground};
+///
+/// let record = br#"{"a": [1, 2]}"#;
+/// assert_eq!(find_value(record, 6), Ok(12));
+/// assert_eq!(find_value(record, 1).unwrap_err().ground, Ground::NoValueThere);
+/// ```
+pub fn find_value(record: &[u8], offset: usize) -> Result<usize, Refusal> {
+    // SAFETY: pointer and length are those of a slice that lives through the call.
+    let value = unsafe { sys::woodcrock_find_value(record.as_ptr(), record.len(), offset) };
+    Refusal::check(value.ground, value.place)?;
+    Ok(value.end)
+}
+
+/// The value whose first byte stands at `offset`, as it is written in the record.
+///
+/// ```
+/// use woodcrock::{value_at, Ground, Refusal};
+///
+/// let record = br#"{"a": [1, 2]}"#;
+/// assert_eq!(value_at(record, 6), Ok(&b"[1, 2]"[..]));
+/// assert_eq!(value_at(record, 13), Err(Refusal { ground: Ground::NoValueThere, place: 13 }));
+/// ```
+pub fn value_at(record: &[u8], offset: usize) -> Result<&[u8], Refusal> {
+    find_value(record, offset).map(|end| &record[offset..end])
+}
+
+/// Sorts one block, the first [`BLOCK`] bytes of `rest` or fewer if it has fewer, into words of
+/// bits.
+///
+/// `inside` counts as one real quote before the block, `odd` as one backslash just before it. Both
+/// are false at the start of a record; after that they are the two facts of the block before. An
+/// empty `rest` gives four words of 0 and both facts back. No bytes are refused.
+///
+/// ```
+/// let words = woodcrock::sort_block(br#"["a]"]"#, false, false);
+/// assert_eq!((words.quotes, words.strings), (0b010010, 0b001110));
+/// assert_eq!((words.opening, words.closing), (0b000001, 0b100000));
+/// assert!(!words.inside && !words.odd);
+/// ```
+pub fn sort_block(rest: &[u8], inside: bool, odd: bool) -> Words {
+    // SAFETY: pointer and length are those of a slice that lives through the call, and a `bool` is
+    // 0 or 1.
+    unsafe { sys::woodcrock_sort_block(rest.as_ptr(), rest.len(), inside, odd) }
+}

@@ -1,0 +1,227 @@
+//! The command `woodcrock`: prints what a JSONPath query picks out of a JSON record.
+
+use std::ffi::OsString;
+use std::fs::File;
+use std::io::{self, BufWriter, Read, Write};
+use std::os::unix::ffi::{OsStrExt, OsStringExt};
+use std::process::ExitCode;
+use std::{env, fmt, str};
+use woodcrock::{sort_block, Ground, Matches, Refusal, Walk, BLOCK, MAX_RECORD};
+
+const USAGE: &str = include_str!("usage.txt");
+
+/// Exit statuses; that of a refusal is its ground's number above the last.
+const NOT_READ_OR_WRITTEN: u8 = 1;
+const USED_WRONGLY: u8 = 2;
+const REFUSED: u8 = 10;
+
+/// What is printed of the nodes.
+#[derive(Clone, Copy, PartialEq)]
+enum Output {
+    Values,
+    Raw,
+    Offsets,
+    Count,
+}
+
+/// What the command line asks for.
+enum Task {
+    Help,
+    List { walk: Walk, output: Output, query: Vec<u8>, file: Option<OsString> },
+}
+
+/// Why nothing, or not all, was printed.
+enum Failure {
+    Usage(String),
+    Read(String, io::Error),
+    Write(io::Error),
+    Refused { refusal: Refusal, query: Vec<u8>, record: Vec<u8> },
+}
+
+impl Failure {
+    fn status(&self) -> u8 {
+        match self {
+            Failure::Usage(_) => USED_WRONGLY,
+            Failure::Read(..) | Failure::Write(_) => NOT_READ_OR_WRITTEN,
+            Failure::Refused { refusal, .. } => REFUSED + refusal.ground.number() as u8,
+        }
+    }
+}
+
+impl fmt::Display for Failure {
+    fn fmt(&self, out: &mut fmt::Formatter) -> fmt::Result {
+        match self {
+            Failure::Usage(fault) => write!(out, "{fault}; --help says how it is used"),
+            Failure::Read(name, fault) => write!(out, "{name}: {fault}"),
+            Failure::Write(fault) => write!(out, "standard output: {fault}"),
+            Failure::Refused { refusal, query, .. } if refusal.ground.is_of_query() => {
+                explain_query(out, *refusal, query)
+            }
+            Failure::Refused { refusal, record, .. } => explain_record(out, *refusal, record),
+        }
+    }
+}
+
+/// The refusal of a query, and below it the query with a mark at the place, if it can be shown.
+fn explain_query(out: &mut fmt::Formatter, refusal: Refusal, query: &[u8]) -> fmt::Result {
+    let Refusal { ground, place } = refusal;
+    match ground {
+        Ground::QueryMalformed if place == query.len() => write!(out, "the query is incomplete")?,
+        _ => write!(out, "{refusal}")?,
+    }
+    let (Ok(text), Ok(before)) = (str::from_utf8(query), str::from_utf8(&query[..place])) else {
+        return Ok(());
+    };
+    if ground == Ground::QueryTooLong || text.chars().any(char::is_control) {
+        return Ok(());
+    }
+    write!(out, "\n  {text}\n  {:1$}^", "", before.chars().count())
+}
+
+/// The refusal of a record, with the line and the column, in bytes, of its place.
+fn explain_record(out: &mut fmt::Formatter, refusal: Refusal, record: &[u8]) -> fmt::Result {
+    let Refusal { ground, place } = refusal;
+    match ground {
+        Ground::RecordMalformed if place == record.len() => {
+            write!(out, "the record is incomplete: it ends at byte {place}")?
+        }
+        _ => write!(out, "{refusal}")?,
+    }
+    if ground == Ground::RecordTooLong {
+        return Ok(());
+    }
+    let before = &record[..place];
+    let line = 1 + before.iter().filter(|&&byte| byte == b'\n').count();
+    let column = 1 + before.iter().rev().take_while(|&&byte| byte != b'\n').count();
+    write!(out, " (line {line}, column {column})")
+}
+
+/// Reads the command line. Words after `--`, and the word `-`, are no options.
+fn task(arguments: impl Iterator<Item = OsString>) -> Result<Task, Failure> {
+    let (mut walk, mut output, mut options_over) = (Walk::Jumping, Output::Values, false);
+    let mut words = Vec::new();
+    for argument in arguments {
+        if options_over || !argument.as_bytes().starts_with(b"-") || argument == "-" {
+            words.push(argument);
+            continue;
+        }
+        match argument.to_str() {
+            Some("--") => options_over = true,
+            Some("--help") => return Ok(Task::Help),
+            Some("--plain") => walk = Walk::Plain,
+            Some("--raw") => output = only(output, Output::Raw)?,
+            Some("--offsets") => output = only(output, Output::Offsets)?,
+            Some("--count") => output = only(output, Output::Count)?,
+            _ => return Err(Failure::Usage(format!("no option {}", argument.display()))),
+        }
+    }
+    let mut words = words.into_iter();
+    let Some(query) = words.next() else {
+        return Err(Failure::Usage("a query is missing".to_string()));
+    };
+    let file = words.next().filter(|name| name != "-");
+    match words.next() {
+        Some(word) => Err(Failure::Usage(format!("a word too many: {}", word.display()))),
+        None => Ok(Task::List { walk, output, query: query.into_vec(), file }),
+    }
+}
+
+/// The output asked for, if none was before.
+fn only(before: Output, asked: Output) -> Result<Output, Failure> {
+    match before == Output::Values || before == asked {
+        true => Ok(asked),
+        false => Err(Failure::Usage("only one of --raw, --offsets and --count".to_string())),
+    }
+}
+
+/// Reads the record: up to one byte more than is taken, so that one that is too long is refused as
+/// such.
+fn read(file: Option<OsString>) -> Result<Vec<u8>, Failure> {
+    let mut record = Vec::new();
+    let limit = MAX_RECORD as u64 + 1;
+    let (name, read) = match file {
+        None => {
+            let read = io::stdin().lock().take(limit).read_to_end(&mut record);
+            ("standard input".to_string(), read)
+        }
+        Some(path) => {
+            let read = File::open(&path).and_then(|file| file.take(limit).read_to_end(&mut record));
+            (path.display().to_string(), read)
+        }
+    };
+    match read {
+        Ok(_) => Ok(record),
+        Err(fault) => Err(Failure::Read(name, fault)),
+    }
+}
+
+/// Prints what is asked for of the nodes.
+fn print(out: &mut impl Write, output: Output, matches: &Matches) -> io::Result<()> {
+    match output {
+        Output::Count => writeln!(out, "{}", matches.len())?,
+        Output::Offsets => {
+            for range in matches.ranges() {
+                writeln!(out, "{} {}", range.start, range.end)?;
+            }
+        }
+        Output::Raw => {
+            for value in matches.values() {
+                out.write_all(value)?;
+                out.write_all(b"\n")?;
+            }
+        }
+        Output::Values => {
+            for value in matches.values() {
+                print_on_one_line(out, value)?;
+                out.write_all(b"\n")?;
+            }
+        }
+    }
+    out.flush()
+}
+
+/// Prints a value without its blanks outside strings; inside there are no line feeds.
+fn print_on_one_line(out: &mut impl Write, value: &[u8]) -> io::Result<()> {
+    let (mut inside, mut odd) = (false, false);
+    for block in value.chunks(BLOCK) {
+        let words = sort_block(block, inside, odd);
+        (inside, odd) = (words.inside, words.odd);
+        for (bit, byte) in block.iter().enumerate() {
+            let in_string = words.strings >> bit & 1 == 1;
+            if in_string || !b" \t\n\r".contains(byte) {
+                out.write_all(&[*byte])?;
+            }
+        }
+    }
+    Ok(())
+}
+
+/// Does what the command line asks for.
+fn run() -> Result<(), Failure> {
+    let mut out = BufWriter::new(io::stdout().lock());
+    let (walk, output, query, file) = match task(env::args_os().skip(1))? {
+        Task::Help => {
+            let written = out.write_all(USAGE.as_bytes()).and_then(|()| out.flush());
+            return written.map_err(Failure::Write);
+        }
+        Task::List { walk, output, query, file } => (walk, output, query, file),
+    };
+    let record = read(file)?;
+    let matches = match walk.list(&query, &record) {
+        Ok(matches) => matches,
+        Err(refusal) => return Err(Failure::Refused { refusal, query, record }),
+    };
+    print(&mut out, output, &matches).map_err(Failure::Write)
+}
+
+fn main() -> ExitCode {
+    let Err(failure) = run() else {
+        return ExitCode::SUCCESS;
+    };
+    match &failure {
+        // Who reads the output has seen enough.
+        Failure::Write(fault) if fault.kind() == io::ErrorKind::BrokenPipe => {}
+        _ => eprintln!("woodcrock: {failure}"),
+    }
+    ExitCode::from(failure.status())
+}
