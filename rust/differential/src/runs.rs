@@ -140,7 +140,7 @@ fn long_records(length: usize) -> Vec<Vec<u8>> {
 }
 
 /// A stack on which every call has to do at 512 levels of nesting.
-pub const SMALL_STACK: usize = 256 * 1_024;
+pub const SMALL_STACK: usize = 384 * 1_024;
 
 /// A call whose stack is of interest.
 #[derive(Clone, Copy, PartialEq, Eq, Debug)]
