@@ -43,8 +43,8 @@ pub fn files(text: &[u8]) -> Result<Vec<File>, String> {
         return Err(format!("{}: more than {MAX_PAIRS} pairs", case.name));
     }
     Ok(vec![
-        File { path: "rust/vectors/stdin", contents: input(&cases) },
-        File { path: "rust/vectors/stdout", contents: expected(&cases) },
+        File { path: "crates/vectors/stdin", contents: input(&cases) },
+        File { path: "crates/vectors/stdout", contents: expected(&cases) },
         File { path: "rust/vectors/vectors.tsv", contents: rows(&cases) },
         File { path: "docs/VECTORS.md", contents: page(&cases) },
     ])

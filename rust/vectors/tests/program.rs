@@ -49,7 +49,7 @@ fn run_case(input: &mut &[u8]) -> (bool, String) {
 #[test]
 fn the_program_prints_what_is_expected() {
     let files = files(suite().as_bytes()).unwrap();
-    let mut input = file(&files, "rust/vectors/stdin").as_bytes();
+    let mut input = file(&files, "crates/vectors/stdin").as_bytes();
     let cases = numbers(&mut input)[0];
     let (mut refusals, mut output) = (0, String::new());
     for _ in 0..cases {
@@ -60,7 +60,7 @@ fn the_program_prints_what_is_expected() {
     assert!(input.is_empty());
     let listed = cases - refusals;
     output += &format!("{cases} cases: {listed} listed, {refusals} refused, 0 wrong\n");
-    assert_eq!(output, file(&files, "rust/vectors/stdout"));
+    assert_eq!(output, file(&files, "crates/vectors/stdout"));
 }
 
 /// A suite of one vector.

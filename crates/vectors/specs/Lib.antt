@@ -1,0 +1,2 @@
+-- The specifications of `vectors`: what its functions promise of the places that they answer.
+pub mod Places
