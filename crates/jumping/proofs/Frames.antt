@@ -6,7 +6,7 @@ use mathlib.Core.Bool.{Bool, true, false}
 use Prim.Native.Nat.{ℕ, zero, suc, _+_, _-_, _≤_, _<_}
 use native.Mathlib.Omega.{arith}
 use lib.Dec.{eqb}
-use lib.ListN.{length, getD, set, length-set}
+use lib.ListN.{length, getD, replicate, length-set, length-replicate}
 use lib.Seq.{getD-set-same, getD-set-other}
 use borrow.Author.Tests.{eqb-true}
 use Rattle.query.specs.Steps.{Step}
@@ -18,6 +18,12 @@ use Rattle.jumping.specs.Turns.{Pops, other, topmost}
 
 pub pile-same : {l l′ h h′ w b : List ℕ} → l ≡ l′ → h ≡ h′ → pile l h w b ≡ pile l′ h′ w b
 pile-same e1 e2 = cc
+
+-- the arrays before the walk
+pub clear-sized : Sized (pile (replicate maxDepth 0) (replicate maxDepth 0) (replicate maxDepth 0) (replicate maxDepth 0))
+clear-sized =
+    let clear = length-replicate {A = ℕ} maxDepth 0 in
+    record { levels = clear; held = clear; waits = clear; brackets = clear }
 
 -- the ways through a container's leaving
 module _ {levels held : List ℕ} {f d m : ℕ} where
@@ -42,8 +48,8 @@ framed-few : {z : Pile} {o : Open} {d f m : ℕ} → Framed z o f m → o .frame
 framed-few (shared e1 e2) h e = omega arith
 framed-few (own e1 e2 e3) h e = omega arith
 
-framed-top : {z : Pile} {o : Open} {d f m : ℕ} (k : ℕ) → f ≡ k + 1 → Framed z o f m → (o .frames ≡ k + 1 → getD (z .levels) k 0 < o .depth) → d ≡ o .depth + 1
-    → getD (z .levels) k 0 < d
+framed-top : {z : Pile} {o : Open} {d f m : ℕ} (k : ℕ) → f ≡ k + 1 → Framed z o f m
+    → (o .frames ≡ k + 1 → getD (z .levels) k 0 < o .depth) → d ≡ o .depth + 1 → getD (z .levels) k 0 < d
 framed-top k e (shared e1 e2) h g = omega (arith, h (omega arith))
 framed-top {z} {o} k e (own e1 e2 e3) h g = let j : o .frames ≡ k = omega arith in omega (arith, ap (λ (y : ℕ). getD (z .levels) y 0) j)
 

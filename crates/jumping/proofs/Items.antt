@@ -1,34 +1,34 @@
 -- From an item to its value, and on from a value: the innermost container's next item, or the container around it. Assumes nothing.
 use mathlib.Core.Path.{_≡_, refl, sym, ap, ap₂, subst, _∙_}
 use mathlib.Core.List.{List}
-use mathlib.Core.Bool.{Bool, true, false, false≢true, true≢false}
-use Prim.Native.Nat.{ℕ, _+_, _-_, _≤_, _<_}
+use mathlib.Core.Bool.{Bool, true, false}
+use Prim.Native.Nat.{ℕ, _+_, _-_, _<_}
 use native.Mathlib.Omega.{arith}
 use lib.Dec.{eqb}
 use lib.ListN.{length, getD, drop, length-drop}
 use lib.Seq.{slice}
 use Rattle.json.specs.Grammar.{Key, putKey, putValue, putMore}
-use Rattle.json.specs.Verdict.{maxDepth}
 use Rattle.query.specs.Holds.{Holds}
 use Rattle.query.specs.Steps.{Step}
 use Rattle.query.specs.declared.compiled.Compiled.{Compiled}
-use Rattle.select.specs.Nodes.{Label, size, labelOf}
+use Rattle.select.specs.Nodes.{size, labelOf}
 use Rattle.select.specs.Visits.{visits}
 use Rattle.select.specs.Ways.{frameIf}
 use Rattle.scan.specs.Places.{past-blanks, past-key}
 use Rattle.scan.specs.Scans.{EndsBlanks, kindIf, NameAt, EntersItem}
 use Rattle.marks.specs.Advances.{LabelIs, by-name, by-position, Advances}
-use Rattle.automaton.specs.State.{State, nextMarks, nextPicked, next}
+use Rattle.automaton.specs.State.{nextMarks, nextPicked, next}
 use Rattle.automaton.specs.Tally.{Tally, tallied}
 use Rattle.automaton.specs.Halves.{finish}
 use Rattle.walk.specs.Ahead.{valueAt}
 use Rattle.walk.specs.AheadLaws as A
-use Rattle.jumping.specs.Pile.{Pile, pile, kindAt, Open, Level, Passed, root, item, ItemDue, ValueDue}
+use Rattle.jumping.specs.Pile.{Pile, kindAt, Passed, root, item, ItemDue, ValueDue}
 use Rattle.jumping.specs.Turns.{Pops}
 use Rattle.jumping.proofs.Frames.{popped}
 
 -- the label of an item by where its name's bytes are
-label-is : (s : List ℕ) (a e : ℕ) (b : Bool) (key : Key (kindIf b)) (j : ℕ) → NameAt (kindIf b) key s a e → LabelIs (slice a e s) b (labelOf (kindIf b) key j)
+label-is : (s : List ℕ) (a e : ℕ) (b : Bool) (key : Key (kindIf b)) (j : ℕ) → NameAt (kindIf b) key s a e
+    → LabelIs (slice a e s) b (labelOf (kindIf b) key j)
 unfolding labelOf
 label-is s a e true key j h = rw h by-name
 label-is s a e false key j h = by-position j
@@ -37,8 +37,9 @@ label-is s a e false key j h = by-position j
 same-place : (s : List ℕ) (a b : ℕ) → a < length s → drop a s ≡ drop b s → b ≡ a
 same-place s a b h e = omega (arith, length-drop a s, length-drop b s, ap length e)
 
-module _ {q : List ℕ} {c : Compiled} {x : List Step} (holds : Holds q x c) {s : List ℕ} {whole : Tally} {z : Pile} {i : ℕ} {t : Tally} {d f m : ℕ} {b : Bool} {v a e m′ : ℕ} {p : Bool}
-    (due : ItemDue x s whole z i t d f m) (object : b ≡ eqb (getD (z .brackets) (d - 1) 0) 0x7B) (enters : EntersItem s i b v a e)
+-- an item is ahead; its value stands at v, its name from a to e
+module _ {q : List ℕ} {c : Compiled} {x : List Step} (holds : Holds q x c) {s : List ℕ} {whole : Tally} {z : Pile} {i : ℕ} {t : Tally} {d f m : ℕ}
+    {b : Bool} {v a e m′ : ℕ} {p : Bool} (due : ItemDue x s whole z i t d f m) (object : b ≡ eqb (getD (z .brackets) (d - 1) 0) 0x7B) (enters : EntersItem s i b v a e)
     (advances : Advances q c m (slice a e s) b m′ p) where
   object-is : b ≡ eqb (due .o .bracket) 0x7B
   object-is =

@@ -1,11 +1,11 @@
 -- The walk from the root: what is ahead at first, what each turn keeps, and what has come of it when the root is passed. Assumes nothing.
-use mathlib.Core.Path.{_≡_, refl, sym, ap, ap₂, subst, _∙_}
+use mathlib.Core.Path.{_≡_, refl, sym, ap, _∙_}
 use mathlib.Core.List.{List, []}
-use mathlib.Core.Bool.{Bool, true, false, false≢true, true≢false}
-use Prim.Native.Nat.{ℕ, zero, suc, _+_, _-_, _*_, _≤_, _<_}
+use mathlib.Core.Bool.{Bool, true, false, true≢false}
+use Prim.Native.Nat.{ℕ, zero, suc, _+_, _-_, _≤_, _<_}
 use native.Mathlib.Omega.{arith}
 use lib.Dec.{eqb, eqb·suc-zero}
-use lib.ListN.{length, getD, drop}
+use lib.ListN.{length, drop}
 use borrow.Author.Tests.{eq-eqb}
 use Rattle.bits.specs.Bits.{number, digit}
 use Rattle.encoding.specs.Bytes.{putBlanks}
@@ -21,10 +21,10 @@ use Rattle.select.specs.Ways.{frameIf}
 use Rattle.scan.specs.Places.{past-blanks}
 use Rattle.scan.specs.Scans.{EndsBlanks}
 use Rattle.scan.specs.ShapeLaws.{solid-value, stopped-end}
-use Rattle.automaton.specs.State.{State, next, start}
+use Rattle.automaton.specs.State.{next, start}
 use Rattle.automaton.specs.Tally.{Tally, tallied, fresh}
 use Rattle.walk.specs.Walks.{Walks}
-use Rattle.jumping.specs.Pile.{Pile, pile, Sized, Passed, root, item, ItemDue, ValueDue}
+use Rattle.jumping.specs.Pile.{Pile, Sized, Passed, root, item, ValueDue}
 use Rattle.jumping.specs.Turns.{tallyOf, Due, Onward, RootMarks, Starts, turnsLeft, Turns}
 use Rattle.jumping.specs.declared.pile.Standing.{Standing}
 
@@ -51,7 +51,8 @@ unfolding frameIf
 same-frame m f = ap (λ (b : Bool). frameIf b f) (sym (eq-eqb m m refl))
 
 -- before the root
-root-due : {x : List Step} {s : List ℕ} (t : Tree) {i m : ℕ} (z : Pile) (list : List ℕ) → Sized z → EndsBlanks s 0 i → m ≡ start x .marks → text t ≡ s → nesting (t .value) ≤ maxDepth
+root-due : {x : List Step} {s : List ℕ} (t : Tree) {i m : ℕ} (z : Pile) (list : List ℕ) → Sized z → EndsBlanks s 0 i → m ≡ start x .marks
+    → text t ≡ s → nesting (t .value) ≤ maxDepth
     → ValueDue x s (tallied (fresh list) (nodeVisits (next x) (N.root t) (start x))) z i (fresh list) m (eqb (length x) 0) 0 0 m
 unfolding text N.root nodeVisits start
 root-due {x} {s} t {i} {m} z list h b e f n =
@@ -97,8 +98,8 @@ starts b r =
           };
     }
 
-pub root-comes : {q : List ℕ} {c : Compiled} {x : List Step} {s list : List ℕ} {whole : Tally} {z : Pile} {a : Standing} → Holds q x c → Due x s whole z list a
-    → a .item ≡ true → a .depth ≡ 0 → ValueDue x s whole z (a .at) (tallyOf list a) (a .marks) (eqb (c .count) 0) (a .depth) (a .frames) (a .marks)
+pub root-comes : {q : List ℕ} {c : Compiled} {x : List Step} {s list : List ℕ} {whole : Tally} {z : Pile} {a : Standing} → Holds q x c
+    → Due x s whole z list a → a .item ≡ true → a .depth ≡ 0 → ValueDue x s whole z (a .at) (tallyOf list a) (a .marks) (eqb (c .count) 0) (a .depth) (a .frames) (a .marks)
 root-comes h d e f = rw (h .count) (d .root e f)
 
 -- fewer turns are left
@@ -131,7 +132,8 @@ module _ {n : ℕ} {r : Standing} (a : Standing) (h : a .at ≤ n) (y : Onward n
       go false = omega (arith, y .within)
 
 -- what was ahead where the turns began still is
-pub record Running (q : List ℕ) (c : Compiled) (s : List ℕ) (z₀ : Pile) (list₀ : List ℕ) (a₀ : Standing) (z : Pile) (list : List ℕ) (a : Standing) : Type 0 where
+pub record Running (q : List ℕ) (c : Compiled) (s : List ℕ) (z₀ : Pile) (list₀ : List ℕ) (a₀ : Standing) (z : Pile) (list : List ℕ) (a : Standing)
+    : Type 0 where
   pub size-is : length list ≡ length list₀
   pub inside : a .at ≤ length s
   pub in-container : a .item ≡ false → a .depth ≡ 0 → ⊥

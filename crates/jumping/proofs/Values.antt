@@ -1,9 +1,9 @@
 -- A value that is ahead is passed with its tally, or a container is entered: the laws of what is ahead, with the pile around. Assumes nothing.
 use mathlib.Core.Path.{_≡_, refl, sym, ap, ap₂, subst, _∙_}
 use mathlib.Core.List.{List, [], _∷_}
-use mathlib.Core.Logic.{_⊎_, inl, inr, ⊎-elim}
+use mathlib.Core.Logic.{_⊎_, inl, inr}
 use mathlib.Core.Bool.{Bool, true, false, false≢true, true≢false}
-use Prim.Native.Nat.{ℕ, zero, suc, _+_, _-_, _≤_, _<_, max}
+use Prim.Native.Nat.{ℕ, zero, suc, _+_, _-_, _≤_, _<_}
 use native.Mathlib.Nat.{le-max-right}
 use native.Mathlib.Omega.{arith}
 use lib.Dec.{eqb}
@@ -19,17 +19,18 @@ use Rattle.scan.specs.Shape.{starts}
 use Rattle.scan.specs.ShapeLaws.{starts-value}
 use Rattle.scan.specs.Scans.{EndsBlanks, EndsScalar}
 use Rattle.leap.specs.Brackets.{Leaves}
-use Rattle.automaton.specs.State.{State, next}
-use Rattle.automaton.specs.Tally.{Tally, raiseFrom, raised, tallied}
+use Rattle.automaton.specs.State.{next}
+use Rattle.automaton.specs.Tally.{Tally, raiseFrom, raised}
 use Rattle.automaton.specs.TallyIs.{tallied-stopped}
 use Rattle.automaton.specs.Dead.{items-dead}
-use Rattle.automaton.specs.Halves.{begin, waiting, endPair, finish}
+use Rattle.automaton.specs.Halves.{begin, waiting, finish}
 use Rattle.pairs.specs.Pairs.{tally, Begins, Raises}
-use Rattle.walk.specs.Ahead.{ItemsAhead, ValueAhead}
+use Rattle.walk.specs.Ahead.{ItemsAhead}
 use Rattle.walk.specs.AheadLaws.{items-inside, no-items, first-item}
-use Rattle.walk.specs.ValueLaws.{scalar-passed, container-entered, Entered}
-use Rattle.jumping.specs.Pile.{Pile, pile, kept, Sized, Open, kindAt, Level, Passed, ItemDue, ValueDue, ContainerDue}
-use Rattle.jumping.specs.Turns.{tallyOf, Due, Onward, Lost, PassedTo, EnteredAt, Skipped}
+use Rattle.walk.specs.ValueLaws.{scalar-passed, container-entered}
+use Rattle.jumping.specs.Pile.{Pile, pile, kept, Open, kindAt, Passed, ItemDue, ValueDue, ContainerDue}
+use Rattle.jumping.specs.Turns.{tallyOf, Due, Onward, Lost, PassedTo, EnteredAt, Skipped, PassesContainer}
+use Rattle.jumping.specs.declared.pile.Coming.{Coming}
 use Rattle.jumping.specs.declared.pile.Standing.{Standing}
 use Rattle.jumping.proofs.Frames.{passed-sized, passed-few, passed-kept, level-new}
 
@@ -47,7 +48,8 @@ onward-lost y h g k =
       few = k;
     })
 
-pub onward-passed : {n i e w : ℕ} {l l′ : List ℕ} {a r : Standing} → PassedTo l l′ w e a r → i ≤ e → e ≤ n → a .depth ≤ maxDepth → a .frames ≤ maxDepth → Onward n i r
+pub onward-passed : {n i e w : ℕ} {l l′ : List ℕ} {a r : Standing} → PassedTo l l′ w e a r → i ≤ e → e ≤ n → a .depth ≤ maxDepth
+    → a .frames ≤ maxDepth → Onward n i r
 onward-passed y h g k j =
     rw (y .is)
     (record {
@@ -66,14 +68,15 @@ lost-farther y = rw (y .is) (omega arith)
 pub passed-farther : {i e w : ℕ} {l l′ : List ℕ} {a r : Standing} → PassedTo l l′ w e a r → i < e → i < r .at
 passed-farther y h = rw (y .is) h
 
-pub onward-entered : {n i b j w f m : ℕ} {z z′ : Pile} {a r : Standing} → EnteredAt z z′ b j w f m a r → i < j → j ≤ n → a .depth < maxDepth → f ≤ maxDepth → Onward n i r
-onward-entered y h g k e =
+pub onward-entered : {n b w f : ℕ} {z z′ : Pile} {v : Coming} {a r : Standing} → EnteredAt z z′ b w f v a r → v .at < n
+    → a .depth < maxDepth → f ≤ maxDepth → Onward n (v .at) r
+onward-entered y h k e =
     rw (y .is)
     (record {
       onward = omega arith;
-      farther = λ e. h;
+      farther = λ e. omega arith;
       within = omega arith;
-      inside = λ e. g;
+      inside = λ e. omega arith;
       in-container = λ e. λ e. absurd (omega arith);
       room = omega arith;
       few = e;
@@ -91,8 +94,8 @@ module _ {x : List Step} {s : List ℕ} {whole : Tally} where
       rw (y .is, y .list-is) (record { root = λ e. absurd (false≢true e); item = λ e. absurd (false≢true e); passed = λ e. p })
 
   -- a container has been entered
-  pub due-entered : {z z′ : Pile} {l : List ℕ} {b i w f m : ℕ} {a r : Standing} → EnteredAt z z′ b i w f m a r
-      → ItemDue x s whole (kept z (a .frames) (a .depth) (a .marks) w b) i (tallyOf l a) (a .depth + 1) f m → Due x s whole z′ l r
+  pub due-entered : {z z′ : Pile} {l : List ℕ} {b w f : ℕ} {v : Coming} {a r : Standing} → EnteredAt z z′ b w f v a r
+      → ItemDue x s whole (kept z (a .frames) (a .depth) (a .marks) w b) (v .at + 1) (tallyOf l a) (a .depth + 1) f (v .marks) → Due x s whole z′ l r
   due-entered y p =
       rw (y .is, y .pile-is) (record { root = λ e g. absurd (omega arith); item = λ e g. p; passed = λ e. absurd (true≢false e) })
 
@@ -102,7 +105,8 @@ unfolding starts
 starts-inside s [] i h e = absurd (false≢true h)
 starts-inside s (b ∷ xs) i h e = head-of s i b xs e .inside
 
-pub value-inside : {x : List Step} {s : List ℕ} {whole : Tally} {z : Pile} {i : ℕ} {t : Tally} {m′ : ℕ} {p : Bool} {d f m : ℕ} → ValueDue x s whole z i t m′ p d f m → i < length s
+pub value-inside : {x : List Step} {s : List ℕ} {whole : Tally} {z : Pile} {i : ℕ} {t : Tally} {m′ : ℕ} {p : Bool} {d f m : ℕ}
+    → ValueDue x s whole z i t m′ p d f m → i < length s
 value-inside {s = s} {i = i} v = starts-inside s (putValue (v .ahead .v) (v .rest)) i (starts-value (v .ahead .v) (v .rest)) (v .ahead .here)
 
 module _ {x : List Step} {s : List ℕ} {whole : Tally} {z : Pile} {i : ℕ} {l : List ℕ} {u h k m′ : ℕ} {p : Bool} {d f m : ℕ} {l′ : List ℕ} {u′ k′ w : ℕ}
@@ -133,7 +137,9 @@ module _ {x : List Step} {s : List ℕ} {whole : Tally} {z : Pile} {i : ℕ} {l 
         marks-are = v .marks-are;
         frames-are = v .frames-are;
         ahead =
-            subst (λ (t : Tally). ItemsAhead (next x) s (v .rest) (kindAt (getD s i 0)) (v .state) (v .room - 1) (y .inner) (v .end) (i + 1) (raised (v .state .frames) t))
+            subst
+            (λ (t : Tally).
+            ItemsAhead (next x) s (v .rest) (kindAt (getD s i 0)) (v .state) (v .room - 1) (y .inner) (v .end) (i + 1) (raised (v .state .frames) t))
             begun-is (y .ahead);
         after = passed-as refl (ap (λ (n : ℕ). finish n (v .end) (y .inner)) (sym waits-is) ∙ y .closes) (v .after);
       }
@@ -154,11 +160,19 @@ framed-fits true e h = omega arith
 framed-fits false e h = omega arith
 
 -- there is a level and a frame for the container
-pub has-level : {x : List Step} {s : List ℕ} {whole : Tally} {z : Pile} {i : ℕ} {t : Tally} {w m′ d f m : ℕ} → ContainerDue x s whole z i t w m′ d f m → d < maxDepth
+pub has-level : {x : List Step} {s : List ℕ} {whole : Tally} {z : Pile} {i : ℕ} {t : Tally} {w m′ d f m : ℕ}
+    → ContainerDue x s whole z i t w m′ d f m → d < maxDepth
 has-level v = omega (arith, v .fits)
 
-pub has-frame : {x : List Step} {s : List ℕ} {whole : Tally} {z : Pile} {i : ℕ} {t : Tally} {w m′ d f m : ℕ} → ContainerDue x s whole z i t w m′ d f m → f < maxDepth
+pub has-frame : {x : List Step} {s : List ℕ} {whole : Tally} {z : Pile} {i : ℕ} {t : Tally} {w m′ d f m : ℕ}
+    → ContainerDue x s whole z i t w m′ d f m → f < maxDepth
 has-frame v = omega (arith, v .fits, passed-few (v .after))
+
+-- bytes that no tree explains
+pub container-lost : {s : List ℕ} {z z′ : Pile} {l l′ : List ℕ} {v : Coming} {w : ℕ} {a r : Standing} → Lost (v .at) a r → v .at < length s
+    → a .frames ≤ maxDepth → ((x : List Step) (whole : Tally) → ContainerDue x s whole z (v .at) (tallyOf l a) w (v .marks) (a .depth) (a .frames) (a .marks) → ⊥)
+    → PassesContainer s z z′ l l′ v w a r
+container-lost y h g n = record { onward = onward-lost y (omega arith) (omega arith) g; keeps = λ x whole d. absurd (n x whole d) }
 
 module _ {x : List Step} {s : List ℕ} {whole : Tally} {z : Pile} {i : ℕ} {l : List ℕ} {u h k w m′ d f m f′ h′ : ℕ}
     (v : ContainerDue x s whole z i (tally l u h k) w m′ d f m) (g : f′ ≡ frameIf (eqb m m′) f) (r : Raises h f′ k h′) where

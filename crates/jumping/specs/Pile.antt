@@ -74,7 +74,8 @@ module _ (x : List Step) (s : List ℕ) (whole : Tally) (z : Pile) where
   -- after which more of it is ahead, the end of its own pair, and then what is ahead where it has been passed itself
   pub data Passed : (i : ℕ) → Tally → (d f m : ℕ) → Type 0 where
     root : {i : ℕ} {t : Tally} {d f m : ℕ} → Sized z → d ≡ 0 → f ≡ 0 → t ≡ whole → Passed i t d f m
-    item : {i : ℕ} {t : Tally} {d f m : ℕ} (o : Open) → Level z o d f m → MoreAhead (next x) s (o .rest) (kindAt (o .bracket)) (o .state) (o .room) (o .inner) (o .end) i t
+    item : {i : ℕ} {t : Tally} {d f m : ℕ} (o : Open) → Level z o d f m
+        → MoreAhead (next x) s (o .rest) (kindAt (o .bracket)) (o .state) (o .room) (o .inner) (o .end) i t
         → Passed (o .end) (finish (o .wait) (o .end) (o .inner)) (o .depth) (o .frames) (o .marks) → Passed i t d f m
 
   -- what is ahead after the container o

@@ -5,7 +5,7 @@ use mathlib.Core.Logic.{_⊎_}
 use mathlib.Core.Bool.{Bool, true, false}
 use Prim.Native.Nat.{ℕ, _+_, _-_, _*_, _≤_, _<_}
 use lib.Dec.{eqb}
-use lib.ListN.{length, getD, set}
+use lib.ListN.{length, getD}
 use Rattle.json.specs.Grammar.{Tree, text, nesting}
 use Rattle.json.specs.Verdict.{maxDepth}
 use Rattle.query.specs.Holds.{Holds}
@@ -31,7 +31,8 @@ tallyOf list a = tally list (a .used) (a .peak) (a .stop)
 
 -- what is ahead at a place: the root, an item of the innermost container, or what follows a value that has been passed
 pub record Due (x : List Step) (s : List ℕ) (whole : Tally) (z : Pile) (list : List ℕ) (a : Standing) : Type 0 where
-  pub root : a .item ≡ true → a .depth ≡ 0 → ValueDue x s whole z (a .at) (tallyOf list a) (a .marks) (eqb (length x) 0) (a .depth) (a .frames) (a .marks)
+  pub root : a .item ≡ true → a .depth ≡ 0
+      → ValueDue x s whole z (a .at) (tallyOf list a) (a .marks) (eqb (length x) 0) (a .depth) (a .frames) (a .marks)
   pub item : a .item ≡ true → (a .depth ≡ 0 → ⊥) → ItemDue x s whole z (a .at) (tallyOf list a) (a .depth) (a .frames) (a .marks)
   pub passed : a .item ≡ false → Passed x s whole z (a .at) (tallyOf list a) (a .depth) (a .frames) (a .marks)
 
@@ -54,10 +55,10 @@ pub record PassedTo (list list′ : List ℕ) (w e : ℕ) (a r : Standing) : Typ
   pub list-is : list′ ≡ endPair w e list
   pub is : r ≡ record { at = e; item = false; depth = a .depth; frames = a .frames; marks = a .marks; used = a .used; peak = a .peak; stop = a .stop }
 
--- in a container with the opening bracket b, at place i after it, with f frames and the marks m
-pub record EnteredAt (z z′ : Pile) (b i w f m : ℕ) (a r : Standing) : Type 0 where
+-- in the container v with the opening bracket b, at the place after it, with f frames; w is the pair that waits for its end
+pub record EnteredAt (z z′ : Pile) (b w f : ℕ) (v : Coming) (a r : Standing) : Type 0 where
   pub pile-is : z′ ≡ kept z (a .frames) (a .depth) (a .marks) w b
-  pub is : r ≡ record { at = i; item = true; depth = a .depth + 1; frames = f; marks = m; used = a .used; peak = a .peak; stop = a .stop }
+  pub is : r ≡ record { at = v .at + 1; item = true; depth = a .depth + 1; frames = f; marks = v .marks; used = a .used; peak = a .peak; stop = a .stop }
 
 -- a container is passed without a look inside only where it has no marks or the list is full
 pub record Skipped (m stop : ℕ) (r : Bool) : Type 0 where

@@ -112,7 +112,8 @@ fn past(
 ) -> Standing
     requires { ⌜ (length (now «record») ≤ maxBytes) × (a .at ≤ length (now «record»)) ⌝ }
     requires { ⌜ (a .depth ≤ maxDepth) × (a .frames ≤ maxDepth) × (a .depth ≡ 0 → ⊥) ⌝ }
-    ensures { λ r. ⌜ GoesOn (now («record» .entry)) (now (levels .entry)) (now (held .entry)) (now (waits .entry)) (now (list .entry)) (now (list .exit)) a r ⌝ }
+    ensures { λ r. ⌜ GoesOn (now («record» .entry)) (now (levels .entry)) (now (held .entry)) (now (waits .entry))
+        (now (list .entry)) (now (list .exit)) a r ⌝ }
 {
     let at = a.at;
     let next = skip_blanks(record, at);
@@ -151,7 +152,10 @@ fn turn(
     requires { ⌜ Fits (now query) steps ⌝ }
     requires { ⌜ (length (now «record») ≤ maxBytes) × (a .at ≤ length (now «record»)) ⌝ }
     requires { ⌜ (a .depth ≤ maxDepth) × (a .frames ≤ maxDepth) × (a .item ≡ false → a .depth ≡ 0 → ⊥) ⌝ }
-    ensures { λ r. ⌜ Turns (now (query .entry)) steps (now («record» .entry)) (pile (now (levels .entry)) (now (held .entry)) (now (waits .entry)) (now (brackets .entry))) (pile (now (levels .exit)) (now (held .exit)) (now (waits .exit)) (now (brackets .exit))) (now (list .entry)) (now (list .exit)) a r ⌝ }
+    ensures { λ r. ⌜ Turns (now (query .entry)) steps (now («record» .entry))
+        (pile (now (levels .entry)) (now (held .entry)) (now (waits .entry)) (now (brackets .entry)))
+        (pile (now (levels .exit)) (now (held .exit)) (now (waits .exit)) (now (brackets .exit)))
+        (now (list .entry)) (now (list .exit)) a r ⌝ }
 {
     if !a.item {
         return past(record, a, list, levels, held, waits);

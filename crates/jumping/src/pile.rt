@@ -13,13 +13,13 @@ pub const MAX_DEPTH: usize = 512;
 // first node left over, or 0.
 pub struct Standing {
     pub at: usize,
-    pub item: bool,
     pub depth: usize,
     pub frames: usize,
-    pub marks: u16,
     pub used: usize,
     pub peak: usize,
     pub stop: usize,
+    pub marks: u16,
+    pub item: bool,
 }
 
 // A value that is ahead: its first byte, its marks, and whether it is picked out.

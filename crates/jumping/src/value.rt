@@ -60,32 +60,34 @@ fn is_dead(marks: u16, stop: usize) -> bool
     false
 }
 
-// Enters a container whose opening bracket stands just before `at`, and keeps for it what is needed when it is left.
+// Enters the container ahead, past its opening bracket, and keeps what is needed when it is left.
 fn enter(
     bracket: u8,
-    at: usize,
+    v: Coming,
     wait: usize,
     frames: usize,
-    marks: u16,
     a: Standing,
     levels: &mut [u16; MAX_DEPTH],
     held: &mut [u16; MAX_DEPTH],
     waits: &mut [usize; MAX_DEPTH],
     brackets: &mut [u8; MAX_DEPTH],
 ) -> Standing
-    requires { ⌜ (a .frames < maxDepth) × (a .depth < maxDepth) ⌝ }
-    ensures { λ r. ⌜ EnteredAt (pile (now (levels .entry)) (now (held .entry)) (now (waits .entry)) (now (brackets .entry))) (pile (now (levels .exit)) (now (held .exit)) (now (waits .exit)) (now (brackets .exit))) bracket at wait frames marks a r ⌝ }
+    requires { ⌜ (v .at ≤ maxBytes) × (a .frames < maxDepth) × (a .depth < maxDepth) ⌝ }
+    ensures { λ r. ⌜ EnteredAt
+        (pile (now (levels .entry)) (now (held .entry)) (now (waits .entry)) (now (brackets .entry)))
+        (pile (now (levels .exit)) (now (held .exit)) (now (waits .exit)) (now (brackets .exit)))
+        bracket wait frames v a r ⌝ }
 {
     let depth = a.depth;
     push_frame(levels, held, a.frames, depth, a.marks);
     waits[depth] = wait;
     brackets[depth] = bracket;
     let mut r = a;
-    r.at = at;
+    r.at = v.at + 1;
     r.item = true;
     r.depth = depth + 1;
     r.frames = frames;
-    r.marks = marks;
+    r.marks = v.marks;
     r
 }
 
@@ -105,7 +107,10 @@ fn container(
     requires { ⌜ ClassTable (now classes) ⌝ }
     requires { ⌜ (length (now «record») ≤ maxBytes) × (v .at < length (now «record»)) ⌝ }
     requires { ⌜ (a .depth ≤ maxDepth) × (a .frames ≤ maxDepth) ⌝ }
-    ensures { λ r. ⌜ PassesContainer (now («record» .entry)) (pile (now (levels .entry)) (now (held .entry)) (now (waits .entry)) (now (brackets .entry))) (pile (now (levels .exit)) (now (held .exit)) (now (waits .exit)) (now (brackets .exit))) (now (list .entry)) (now (list .exit)) v wait a r ⌝ }
+    ensures { λ r. ⌜ PassesContainer (now («record» .entry))
+        (pile (now (levels .entry)) (now (held .entry)) (now (waits .entry)) (now (brackets .entry)))
+        (pile (now (levels .exit)) (now (held .exit)) (now (waits .exit)) (now (brackets .exit)))
+        (now (list .entry)) (now (list .exit)) v wait a r ⌝ }
 {
     let at = v.at;
     let marks = v.marks;
@@ -131,18 +136,7 @@ fn container(
         return pass(list, wait, first + 1, b);
     }
     let bracket = record[at];
-    enter(
-        bracket,
-        at + 1,
-        wait,
-        frames,
-        marks,
-        b,
-        levels,
-        held,
-        waits,
-        brackets,
-    )
+    enter(bracket, v, wait, frames, b, levels, held, waits, brackets)
 }
 
 // Passes the value ahead, or enters it where it is a container that has items and is not dead.
@@ -160,7 +154,10 @@ pub fn value(
     requires { ⌜ ClassTable (now classes) ⌝ }
     requires { ⌜ (length (now «record») ≤ maxBytes) × (v .at ≤ length (now «record»)) ⌝ }
     requires { ⌜ (a .depth ≤ maxDepth) × (a .frames ≤ maxDepth) ⌝ }
-    ensures { λ r. ⌜ PassesValue (now («record» .entry)) (pile (now (levels .entry)) (now (held .entry)) (now (waits .entry)) (now (brackets .entry))) (pile (now (levels .exit)) (now (held .exit)) (now (waits .exit)) (now (brackets .exit))) (now (list .entry)) (now (list .exit)) v a r ⌝ }
+    ensures { λ r. ⌜ PassesValue (now («record» .entry))
+        (pile (now (levels .entry)) (now (held .entry)) (now (waits .entry)) (now (brackets .entry)))
+        (pile (now (levels .exit)) (now (held .exit)) (now (waits .exit)) (now (brackets .exit)))
+        (now (list .entry)) (now (list .exit)) v a r ⌝ }
 {
     let at = v.at;
     if at >= record.len() {

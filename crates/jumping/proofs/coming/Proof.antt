@@ -8,7 +8,14 @@ use Rattle.jumping.proofs.coming.Statement.{statement}
 use Rattle.jumping.proofs.coming.Tie as tie
 
 returns : tie.Need-returns
-returns c = record { onward = omega arith; within = c .before .before .before .before .before .pre .1 .0; due = λ x h whole levels held waits list y. root-comes h y (c .before .before .before .before .before .pre .1 .1 .0) (c .before .if1 .taken) }
+returns c =
+    let at-if1 = c .before in
+    let pre = at-if1 .before .before .before .before .pre in
+    record {
+      onward = omega arith;
+      within = pre .1 .0;
+      due = λ x h whole levels held waits list y. root-comes h y (pre .1 .1 .0) (at-if1 .if1 .taken);
+    }
 
 sub-top : tie.Need-sub-top
 sub-top c = search needs
@@ -20,10 +27,21 @@ enter-item-requires : tie.Need-enter-item-requires
 enter-item-requires c κs = search needs
 
 advance-requires : tie.Need-advance-requires
-advance-requires c κs = (c .before .before .before .before .before .before .before .pre .0, (c .enter-item .ensures .name-order, c .enter-item .ensures .name-within))
+advance-requires c κs =
+    let pre = c .before .before .before .before .before .before .before .pre in
+    (pre .0, (c .enter-item .ensures .name-order, c .enter-item .ensures .name-within))
 
 returns-2 : tie.Need-returns-2
-returns-2 c = record { onward = c .before .enter-item .ensures .onward; within = c .before .enter-item .ensures .within; due = λ x h whole levels held waits list y. item-due h (y .item (c .before .before .before .before .before .before .before .before .pre .1 .1 .0) (c .before .before .before .before .if1 .left)) refl (c .before .enter-item .ensures) (c .advance .ensures) }
+returns-2 c =
+    let at-enter-item = c .before in
+    let at-if1 = at-enter-item .before .before .before in
+    let pre = at-if1 .before .before .before .before .pre in
+    record {
+      onward = at-enter-item .enter-item .ensures .onward;
+      within = at-enter-item .enter-item .ensures .within;
+      due = λ x h whole levels held waits list y.
+          item-due h (y .item (pre .1 .1 .0) (at-if1 .if1 .left)) refl (at-enter-item .enter-item .ensures) (c .advance .ensures);
+    }
 
 pub coming-spec : {M : Type 1} → statement M
 coming-spec =

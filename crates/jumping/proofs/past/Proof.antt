@@ -15,7 +15,16 @@ lost-requires : tie.Need-lost-requires
 lost-requires c κs = search needs
 
 returns : tie.Need-returns
-returns c = record { onward = onward-lost (c .lost .ensures) (omega arith) (c .before .before .before .before .before .pre .0 .1) (c .before .before .before .before .before .pre .1 .1); farther = lost-farther (c .lost .ensures); keeps = λ x whole brackets y. absurd (omega (arith, c .before .if1 .taken, past-inside (c .before .before .before .before .before .pre .1 .2) (c .before .before .skip-blanks .ensures) y)) }
+returns c =
+    let at-if1 = c .before in
+    let at-skip-blanks = at-if1 .before in
+    let pre = at-skip-blanks .before .before .before .pre in
+    record {
+      onward = onward-lost (c .lost .ensures) (omega arith) (pre .0 .1) (pre .1 .1);
+      farther = lost-farther (c .lost .ensures);
+      keeps = λ x whole brackets y.
+          absurd (omega (arith, at-if1 .if1 .taken, past-inside (pre .1 .2) (at-skip-blanks .skip-blanks .ensures) y));
+    }
 
 shared-slice-read-if2 : tie.Need-shared-slice-read-if2
 shared-slice-read-if2 c = search needs
@@ -24,7 +33,29 @@ add-b : tie.Need-add-b
 add-b c = search needs
 
 returns-2 : tie.Need-returns-2
-returns-2 c = record { onward = record { onward = omega (arith, c .before .before .before .skip-blanks .ensures .onward); farther = λ e. omega (arith, c .before .before .before .skip-blanks .ensures .onward); within = omega (arith, c .before .before .if1 .left); inside = λ e. omega (arith, c .before .before .if1 .left); in-container = λ e. c .before .before .before .before .before .before .pre .1 .2; room = c .before .before .before .before .before .before .pre .1 .0; few = c .before .before .before .before .before .before .pre .1 .1 }; farther = omega (arith, c .before .before .before .skip-blanks .ensures .onward); keeps = λ x whole brackets y. record { root = λ e g. absurd (c .before .before .before .before .before .before .pre .1 .2 g); item = λ e g. past-comma (c .before .before .before .before .before .before .pre .1 .2) (c .before .before .before .skip-blanks .ensures) (c .if2 .taken) y; passed = λ e. absurd (true≢false e) } }
+returns-2 c =
+    let at-if1 = c .before .before in
+    let at-skip-blanks = at-if1 .before in
+    let pre = at-skip-blanks .before .before .before .pre in
+    record {
+      onward =
+          record {
+            onward = omega (arith, at-skip-blanks .skip-blanks .ensures .onward);
+            farther = λ e. omega (arith, at-skip-blanks .skip-blanks .ensures .onward);
+            within = omega (arith, at-if1 .if1 .left);
+            inside = λ e. omega (arith, at-if1 .if1 .left);
+            in-container = λ e. pre .1 .2;
+            room = pre .1 .0;
+            few = pre .1 .1;
+          };
+      farther = omega (arith, at-skip-blanks .skip-blanks .ensures .onward);
+      keeps = λ x whole brackets y.
+          record {
+            root = λ e g. absurd (pre .1 .2 g);
+            item = λ e g. past-comma (pre .1 .2) (at-skip-blanks .skip-blanks .ensures) (c .if2 .taken) y;
+            passed = λ e. absurd (true≢false e);
+          };
+    }
 
 sub-top : tie.Need-sub-top
 sub-top c = search needs
@@ -42,13 +73,31 @@ add-pass : tie.Need-add-pass
 add-pass c = search needs
 
 pass-requires : tie.Need-pass-requires
-pass-requires c κs = omega (arith, c .before .before .before .before .before .before .if1 .left, c .before .before .before .before .before .before .before .before .before .before .pre .0 .0)
+pass-requires c κs =
+    let at-if1 = c .before .before .before .before .before .before in
+    let pre = at-if1 .before .before .before .before .pre in
+    omega (arith, at-if1 .if1 .left, pre .0 .0)
 
 same-length : tie.Need-same-length
 same-length c = search needs
 
 returns-3 : tie.Need-returns-3
-returns-3 c = record { onward = onward-passed (c .before .before .pass .ensures) (omega (arith, c .before .before .before .before .before .before .before .before .before .before .skip-blanks .ensures .onward)) (omega (arith, c .before .before .before .before .before .before .before .before .before .if1 .left)) (omega (arith, c .before .before .before .before .before .before .before .before .before .before .before .before .before .pre .1 .0)) (omega (arith, pops-few (c .before .before .before .before .before .pop-frame .ensures), c .before .before .before .before .before .before .before .before .before .before .before .before .before .pre .1 .1)); farther = passed-farther (c .before .before .pass .ensures) (omega (arith, c .before .before .before .before .before .before .before .before .before .before .skip-blanks .ensures .onward)); keeps = λ x whole brackets y. due-passed (c .before .before .pass .ensures) (past-closed (c .before .before .before .before .before .before .before .before .before .before .before .before .before .pre .1 .2) (c .before .before .before .before .before .before .before .before .before .before .skip-blanks .ensures) (c .before .before .before .before .before .before .before .if2 .left) (c .before .before .before .before .before .pop-frame .ensures) y) }
+returns-3 c =
+    let at-pass = c .before .before in
+    let at-pop-frame = at-pass .before .before .before in
+    let at-if2 = at-pop-frame .before .before in
+    let at-if1 = at-if2 .before .before in
+    let at-skip-blanks = at-if1 .before in
+    let pre = at-skip-blanks .before .before .before .pre in
+    record {
+      onward =
+          onward-passed (at-pass .pass .ensures) (omega (arith, at-skip-blanks .skip-blanks .ensures .onward)) (omega (arith, at-if1 .if1 .left))
+          (omega (arith, pre .1 .0)) (omega (arith, pops-few (at-pop-frame .pop-frame .ensures), pre .1 .1));
+      farther = passed-farther (at-pass .pass .ensures) (omega (arith, at-skip-blanks .skip-blanks .ensures .onward));
+      keeps = λ x whole brackets y.
+          due-passed (at-pass .pass .ensures)
+          (past-closed (pre .1 .2) (at-skip-blanks .skip-blanks .ensures) (at-if2 .if2 .left) (at-pop-frame .pop-frame .ensures) y);
+    }
 
 pub past-spec : {M : Type 1} → statement M
 past-spec =

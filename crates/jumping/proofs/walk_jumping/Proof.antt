@@ -1,10 +1,10 @@
 -- The loop's invariant: what was ahead before the root still is. Each turn leaves fewer; when the root is passed nothing is ahead, and the
 -- tally is that of all nodes. Assumes nothing.
 use mathlib.Core.Path.{_∙_}
-use Prim.Native.Nat.{ℕ}
-use lib.ListN.{length, length-replicate}
+use lib.ListN.{length}
 use Rattle.jumping.specs.Pile.{pile}
 use Rattle.jumping.specs.Turns.{turnsLeft}
+use Rattle.jumping.proofs.Frames.{clear-sized}
 use Rattle.jumping.proofs.Root.{Running, running-starts, running-on, walk-ends}
 use borrow.Author.Needs.{needs}
 use Rattle.jumping.proofs.walk_jumping.Statement.{statement}
@@ -15,7 +15,8 @@ Inv-loop query steps «record» list₀ classes levels₀ held₀ waits₀ brack
     Running query steps «record» (pile levels₀ held₀ waits₀ brackets₀) list₀ a₀ (pile levels held waits brackets) list a
 
 abbrev μ-loop : tie.MeasureT-loop
-μ-loop query steps «record» list₀ classes levels₀ held₀ waits₀ brackets₀ a₀ list levels held waits brackets a = turnsLeft (length «record») (a .at) (a .item)
+μ-loop query steps «record» list₀ classes levels₀ held₀ waits₀ brackets₀ a₀ list levels held waits brackets a =
+    turnsLeft (length «record») (a .at) (a .item)
 
 classes-requires : tie.Need-classes-requires Inv-loop μ-loop
 classes-requires c κs = search needs
@@ -27,19 +28,34 @@ loop-holds : tie.Need-loop-holds Inv-loop μ-loop
 loop-holds c = running-starts (c .start .ensures)
 
 turn-requires : tie.Need-turn-requires Inv-loop μ-loop
-turn-requires c κs = (c .before .before .before .before .before .before .before .before .classes .ensures, (c .before .before .before .before .before .before .before .before .before .before .before .before .pre .0, ((c .before .before .before .before .before .before .before .before .before .before .before .before .pre .1, c .before .before .before .before .before .before .loop .inv .inside), (c .before .before .before .before .before .before .loop .inv .room, c .before .before .before .before .before .before .loop .inv .few, c .before .before .before .before .before .before .loop .inv .in-container))))
+turn-requires c κs =
+    let at-loop = c .before .before .before .before .before .before in
+    let at-classes = at-loop .before .before in
+    let pre = at-classes .before .before .before .before .pre in
+    let still = at-loop .loop .inv in
+    (at-classes .classes .ensures, (pre .0, ((pre .1, still .inside), (still .room, still .few, still .in-container))))
 
 same-length : tie.Need-same-length Inv-loop μ-loop
-same-length c = c .before .before .before .turn .kept .1 .1 .1 .1 .1 .0 ∙ c .before .before .before .before .before .before .before .before .before .before .loop .inv .size-is
+same-length c =
+    let at-turn = c .before .before .before in
+    let at-loop = at-turn .before .before .before .before .before .before .before in
+    at-turn .turn .kept .1 .1 .1 .1 .1 .0 ∙ at-loop .loop .inv .size-is
 
 returns : tie.Need-returns Inv-loop μ-loop
-returns c = walk-ends (c .before .before .before .before .before .before .before .before .before .before .loop .inv) (c .before .before .before .turn .ensures) (c .before .before .before .before .before .before .before .before .before .before .before .start .ensures) (record { levels = length-replicate {A = ℕ} 512 0; held = length-replicate {A = ℕ} 512 0; waits = length-replicate {A = ℕ} 512 0; brackets = length-replicate {A = ℕ} 512 0 }) (c .if1 .taken)
+returns c =
+    let at-turn = c .before .before .before in
+    let at-loop = at-turn .before .before .before .before .before .before .before in
+    let at-start = at-loop .before in
+    walk-ends (at-loop .loop .inv) (at-turn .turn .ensures) (at-start .start .ensures) clear-sized (c .if1 .taken)
 
 loop-less : tie.Need-loop-less Inv-loop μ-loop
 loop-less c = c .before .before .before .turn .ensures .fewer
 
 loop-again : tie.Need-loop-again Inv-loop μ-loop
-loop-again c = running-on (c .before .before .before .before .before .before .before .before .before .before .loop .inv) (c .before .before .before .turn .ensures) (c .before .before .before .turn .kept .1 .1 .1 .1 .1 .0) (c .if1 .left)
+loop-again c =
+    let at-turn = c .before .before .before in
+    let at-loop = at-turn .before .before .before .before .before .before .before in
+    running-on (at-loop .loop .inv) (at-turn .turn .ensures) (at-turn .turn .kept .1 .1 .1 .1 .1 .0) (c .if1 .left)
 
 pub walk-jumping-spec : {M : Type 1} → statement M
 walk-jumping-spec =

@@ -2,7 +2,8 @@
 -- Assumes nothing.
 use mathlib.Core.Path.{sym, _∙_}
 use native.Mathlib.Omega.{arith}
-use Rattle.jumping.proofs.Values.{onward-lost, onward-passed, onward-entered, due-passed, due-entered, has-level, has-frame, framed-fits, skipped-due, more-bytes, empty-due, items-due}
+use Rattle.jumping.proofs.Values.{onward-passed, onward-entered, due-passed, due-entered, has-level, has-frame, framed-fits}
+use Rattle.jumping.proofs.Values.{container-lost, skipped-due, more-bytes, empty-due, items-due}
 use borrow.Author.Needs.{needs}
 use Rattle.jumping.proofs.value.container.Statement.{statement}
 use Rattle.jumping.proofs.value.container.Tie as tie
@@ -11,13 +12,19 @@ lost-requires : tie.Need-lost-requires
 lost-requires c κs = search needs
 
 returns : tie.Need-returns
-returns c = record { onward = onward-lost (c .lost .ensures) (omega arith) (omega (arith, c .before .before .before .before .before .pre .1 .0 .1)) (c .before .before .before .before .before .pre .1 .1 .1); keeps = λ x whole y. absurd (omega (arith, has-level y, c .before .if1 .taken)) }
+returns c =
+    let at-if1 = c .before in
+    let pre = at-if1 .before .before .before .before .pre in
+    container-lost (c .lost .ensures) (pre .1 .0 .1) (pre .1 .1 .1) (λ x whole y. omega (arith, has-level y, at-if1 .if1 .taken))
 
 lost-requires-2 : tie.Need-lost-requires-2
 lost-requires-2 c κs = search needs
 
 returns-2 : tie.Need-returns-2
-returns-2 c = record { onward = onward-lost (c .lost2 .ensures) (omega arith) (omega (arith, c .before .before .before .before .before .before .pre .1 .0 .1)) (c .before .before .before .before .before .before .pre .1 .1 .1); keeps = λ x whole y. absurd (omega (arith, has-frame y, c .before .if2 .taken)) }
+returns-2 c =
+    let at-if2 = c .before in
+    let pre = at-if2 .before .before .before .before .before .pre in
+    container-lost (c .lost2 .ensures) (pre .1 .0 .1) (pre .1 .1 .1) (λ x whole y. omega (arith, has-frame y, at-if2 .if2 .taken))
 
 framed-requires : tie.Need-framed-requires
 framed-requires c κs = search needs
@@ -35,13 +42,32 @@ leave-requires : tie.Need-leave-requires
 leave-requires c κs = search needs
 
 pass-requires : tie.Need-pass-requires
-pass-requires c κs = omega (arith, c .before .leave .ensures .within (omega (arith, c .before .before .before .before .before .before .before .before .before .before .before .pre .1 .0 .1)), c .before .before .before .before .before .before .before .before .before .before .before .pre .1 .0 .0)
+pass-requires c κs =
+    let at-leave = c .before in
+    let pre = at-leave .before .before .before .before .before .before .before .before .before .before .pre in
+    omega (arith, at-leave .leave .ensures .within (omega (arith, pre .1 .0 .1)), pre .1 .0 .0)
 
 same-length : tie.Need-same-length
 same-length c = search needs
 
 returns-3 : tie.Need-returns-3
-returns-3 c = record { onward = onward-passed (c .before .before .pass .ensures) (omega (arith, c .before .before .before .before .leave .ensures .onward)) (c .before .before .before .before .leave .ensures .within (omega (arith, c .before .before .before .before .before .before .before .before .before .before .before .before .before .before .pre .1 .0 .1))) (c .before .before .before .before .before .before .before .before .before .before .before .before .before .before .pre .1 .1 .0) (c .before .before .before .before .before .before .before .before .before .before .before .before .before .before .pre .1 .1 .1); keeps = λ x whole y. due-passed (c .before .before .pass .ensures) (skipped-due y (c .before .before .before .before .before .before .before .before .framed .ensures) (c .before .before .before .before .before .before .before .raise .ensures) (c .before .before .before .before .before .before .is-dead .ensures) (c .before .before .before .before .before .if3 .taken) (c .before .before .before .before .leave .ensures)) }
+returns-3 c =
+    let at-pass = c .before .before in
+    let at-leave = at-pass .before .before in
+    let at-if3 = at-leave .before in
+    let at-is-dead = at-if3 .before in
+    let at-raise = at-is-dead .before in
+    let at-framed = at-raise .before in
+    let pre = at-framed .before .before .before .before .before .before .pre in
+    record {
+      onward =
+          onward-passed (at-pass .pass .ensures) (omega (arith, at-leave .leave .ensures .onward))
+          (at-leave .leave .ensures .within (omega (arith, pre .1 .0 .1))) (pre .1 .1 .0) (pre .1 .1 .1);
+      keeps = λ x whole y.
+          due-passed (at-pass .pass .ensures)
+          (skipped-due y (at-framed .framed .ensures) (at-raise .raise .ensures) (at-is-dead .is-dead .ensures) (at-if3 .if3 .taken)
+          (at-leave .leave .ensures));
+    }
 
 add-skip-blanks : tie.Need-add-skip-blanks
 add-skip-blanks c = search needs
@@ -53,7 +79,15 @@ lost-requires-3 : tie.Need-lost-requires-3
 lost-requires-3 c κs = search needs
 
 returns-4 : tie.Need-returns-4
-returns-4 c = record { onward = onward-lost (c .lost3 .ensures) (omega arith) (omega (arith, c .before .before .before .before .before .before .before .before .before .before .before .before .pre .1 .0 .1)) (c .before .before .before .before .before .before .before .before .before .before .before .before .pre .1 .1 .1); keeps = λ x whole y. absurd (omega (arith, more-bytes y (c .before .before .before .before .before .before .framed .ensures) (c .before .before .before .before .before .raise .ensures) (c .before .before .skip-blanks .ensures), c .before .if4 .taken)) }
+returns-4 c =
+    let at-if4 = c .before in
+    let at-skip-blanks = at-if4 .before in
+    let at-raise = at-skip-blanks .before .before .before in
+    let at-framed = at-raise .before in
+    let pre = at-framed .before .before .before .before .before .before .pre in
+    container-lost (c .lost3 .ensures) (pre .1 .0 .1) (pre .1 .1 .1)
+    (λ x whole y.
+    omega (arith, more-bytes y (at-framed .framed .ensures) (at-raise .raise .ensures) (at-skip-blanks .skip-blanks .ensures), at-if4 .if4 .taken))
 
 shared-slice-read-class : tie.Need-shared-slice-read-class
 shared-slice-read-class c = search needs
@@ -65,25 +99,62 @@ add-pass : tie.Need-add-pass
 add-pass c = search needs
 
 pass-requires-2 : tie.Need-pass-requires-2
-pass-requires-2 c κs = omega (arith, c .before .before .before .before .if4 .left, c .before .before .before .before .before .before .before .before .before .before .before .before .before .before .before .pre .1 .0 .0)
+pass-requires-2 c κs =
+    let at-if4 = c .before .before .before .before in
+    let pre = at-if4 .before .before .before .before .before .before .before .before .before .before .before .pre in
+    omega (arith, at-if4 .if4 .left, pre .1 .0 .0)
 
 same-length-2 : tie.Need-same-length-2
 same-length-2 c = search needs
 
 returns-5 : tie.Need-returns-5
-returns-5 c = record { onward = onward-passed (c .before .before .pass2 .ensures) (omega (arith, c .before .before .before .before .before .before .before .before .skip-blanks .ensures .onward)) (omega (arith, c .before .before .before .before .before .before .before .if4 .left)) (c .before .before .before .before .before .before .before .before .before .before .before .before .before .before .before .before .before .before .pre .1 .1 .0) (c .before .before .before .before .before .before .before .before .before .before .before .before .before .before .before .before .before .before .pre .1 .1 .1); keeps = λ x whole y. due-passed (c .before .before .pass2 .ensures) (empty-due y (c .before .before .before .before .before .before .before .before .before .before .before .before .framed .ensures) (c .before .before .before .before .before .before .before .before .before .before .before .raise .ensures) (c .before .before .before .before .before .before .before .before .skip-blanks .ensures) (sym (c .before .before .before .before .before .class .ensures) ∙ c .before .before .before .before .if5 .taken)) }
+returns-5 c =
+    let at-pass2 = c .before .before in
+    let at-if5 = at-pass2 .before .before in
+    let at-class = at-if5 .before in
+    let at-if4 = at-class .before .before in
+    let at-skip-blanks = at-if4 .before in
+    let at-raise = at-skip-blanks .before .before .before in
+    let at-framed = at-raise .before in
+    let pre = at-framed .before .before .before .before .before .before .pre in
+    record {
+      onward =
+          onward-passed (at-pass2 .pass2 .ensures) (omega (arith, at-skip-blanks .skip-blanks .ensures .onward)) (omega (arith, at-if4 .if4 .left))
+          (pre .1 .1 .0) (pre .1 .1 .1);
+      keeps = λ x whole y.
+          due-passed (at-pass2 .pass2 .ensures)
+          (empty-due y (at-framed .framed .ensures) (at-raise .raise .ensures) (at-skip-blanks .skip-blanks .ensures)
+          (sym (at-class .class .ensures) ∙ at-if5 .if5 .taken));
+    }
 
 shared-slice-read-bracket : tie.Need-shared-slice-read-bracket
 shared-slice-read-bracket c = search needs
 
-add-enter : tie.Need-add-enter
-add-enter c = search needs
-
 enter-requires : tie.Need-enter-requires
-enter-requires c κs = (c .before .before .before .before .before .before .before .before .before .before .before .before .before .before .if2 .left, c .before .before .before .before .before .before .before .before .before .before .before .before .before .before .before .if1 .left)
+enter-requires c κs =
+    let at-if2 = c .before .before .before .before .before .before .before .before .before .before .before .before .before .before in
+    let at-if1 = at-if2 .before in
+    let pre = at-if1 .before .before .before .before .pre in
+    (omega (arith, pre .1 .0), at-if2 .if2 .left, at-if1 .if1 .left)
 
 returns-6 : tie.Need-returns-6
-returns-6 c = record { onward = onward-entered (c .enter .ensures) (omega arith) (omega (arith, c .before .before .before .before .before .before .before .before .before .before .before .before .before .before .before .before .before .before .before .before .pre .1 .0 .1)) (c .before .before .before .before .before .before .before .before .before .before .before .before .before .before .before .before .if1 .left) (framed-fits _ (c .before .before .before .before .before .before .before .before .before .before .before .before .before .before .framed .ensures) (c .before .before .before .before .before .before .before .before .before .before .before .before .before .before .before .if2 .left)); keeps = λ x whole y. due-entered (c .enter .ensures) (items-due y (c .before .before .before .before .before .before .before .before .before .before .before .before .before .before .framed .ensures) (c .before .before .before .before .before .before .before .before .before .before .before .before .before .raise .ensures) (c .before .before .before .before .before .before .before .before .before .before .skip-blanks .ensures) (λ e. c .before .before .before .before .before .before .if5 .left (c .before .before .before .before .before .before .before .class .ensures ∙ e))) }
+returns-6 c =
+    let at-if5 = c .before .before .before .before .before .before in
+    let at-class = at-if5 .before in
+    let at-skip-blanks = at-class .before .before .before in
+    let at-raise = at-skip-blanks .before .before .before in
+    let at-framed = at-raise .before in
+    let at-if2 = at-framed .before in
+    let at-if1 = at-if2 .before in
+    let pre = at-if1 .before .before .before .before .pre in
+    record {
+      onward =
+          onward-entered (c .enter .ensures) (pre .1 .0 .1) (at-if1 .if1 .left) (framed-fits _ (at-framed .framed .ensures) (at-if2 .if2 .left));
+      keeps = λ x whole y.
+          due-entered (c .enter .ensures)
+          (items-due y (at-framed .framed .ensures) (at-raise .raise .ensures) (at-skip-blanks .skip-blanks .ensures)
+          (λ e. at-if5 .if5 .left (at-class .class .ensures ∙ e)));
+    }
 
 pub container-spec : {M : Type 1} → statement M
 container-spec =
@@ -112,6 +183,5 @@ container-spec =
     same-length-2
     returns-5
     shared-slice-read-bracket
-    add-enter
     enter-requires
     returns-6)

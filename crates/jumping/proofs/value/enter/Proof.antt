@@ -20,8 +20,13 @@ element-write-brackets c = search needs
 add-r : tie.Need-add-r
 add-r c = search needs
 
+add-r-2 : tie.Need-add-r-2
+add-r-2 c = search needs
+
 returns : tie.Need-returns
-returns c = record { pile-is = pile-same (c .push-frame .ensures .0) (c .push-frame .ensures .1); is = refl }
+returns c =
+    let at-push-frame = c .before in
+    record { pile-is = pile-same (at-push-frame .push-frame .ensures .0) (at-push-frame .push-frame .ensures .1); is = refl }
 
 pub enter-spec : {M : Type 1} → statement M
 enter-spec =
@@ -32,4 +37,5 @@ enter-spec =
     element-write-waits
     element-write-brackets
     add-r
+    add-r-2
     returns)

@@ -10,7 +10,13 @@ lost-requires : tie.Need-lost-requires
 lost-requires c κs = search needs
 
 returns : tie.Need-returns
-returns c = record { onward = onward-lost (c .lost .ensures) (omega arith) (c .before .before .before .before .pre .1 .0 .1) (c .before .before .before .before .pre .1 .1 .1); keeps = λ x whole y. absurd (omega (arith, value-inside y, c .before .if1 .taken)) }
+returns c =
+    let at-if1 = c .before in
+    let pre = at-if1 .before .before .before .pre in
+    record {
+      onward = onward-lost (c .lost .ensures) (omega arith) (pre .1 .0 .1) (pre .1 .1 .1);
+      keeps = λ x whole y. absurd (omega (arith, value-inside y, at-if1 .if1 .taken));
+    }
 
 begin-requires : tie.Need-begin-requires
 begin-requires c κs = search needs
@@ -31,16 +37,43 @@ same-length : tie.Need-same-length
 same-length c = search needs
 
 returns-2 : tie.Need-returns-2
-returns-2 c = record { onward = onward-passed (c .before .before .pass .ensures) (c .before .before .before .before .scalar-end .ensures .onward) (c .before .before .before .before .scalar-end .ensures .within) (c .before .before .before .before .before .before .before .before .before .before .before .before .before .before .before .pre .1 .1 .0) (c .before .before .before .before .before .before .before .before .before .before .before .before .before .before .before .pre .1 .1 .1); keeps = λ x whole y. due-passed (c .before .before .pass .ensures) (scalar-due y (c .before .before .before .before .before .before .before .before .before .before .begin .ensures) (λ e. c .before .before .before .before .before .if2 .taken (c .before .before .before .before .before .before .class .ensures ∙ e)) (c .before .before .before .before .scalar-end .ensures)) }
+returns-2 c =
+    let at-pass = c .before .before in
+    let at-scalar-end = at-pass .before .before in
+    let at-if2 = at-scalar-end .before in
+    let at-class = at-if2 .before in
+    let at-begin = at-class .before .before .before .before in
+    let pre = at-begin .before .before .before .before .before .pre in
+    record {
+      onward =
+          onward-passed (at-pass .pass .ensures) (at-scalar-end .scalar-end .ensures .onward) (at-scalar-end .scalar-end .ensures .within)
+          (pre .1 .1 .0) (pre .1 .1 .1);
+      keeps = λ x whole y.
+          due-passed (at-pass .pass .ensures)
+          (scalar-due y (at-begin .begin .ensures) (λ e. at-if2 .if2 .taken (at-class .class .ensures ∙ e)) (at-scalar-end .scalar-end .ensures));
+    }
 
 container-requires : tie.Need-container-requires
-container-requires c κs = (c .before .before .before .before .before .before .before .before .before .before .before .before .before .before .before .pre .0, ((c .before .before .before .before .before .before .before .before .before .before .before .before .before .before .before .pre .1 .0 .0, c .before .before .before .before .before .before .before .before .before .before .before .before .if1 .left), c .before .before .before .before .before .before .before .before .before .before .before .before .before .before .before .pre .1 .1))
+container-requires c κs =
+    let at-if1 = c .before .before .before .before .before .before .before .before .before .before .before .before in
+    let pre = at-if1 .before .before .before .pre in
+    (pre .0, ((pre .1 .0 .0, at-if1 .if1 .left), pre .1 .1))
 
 same-length-2 : tie.Need-same-length-2
 same-length-2 c = search needs
 
 returns-3 : tie.Need-returns-3
-returns-3 c = record { onward = c .before .before .container .ensures .onward; keeps = λ x whole y. c .before .before .container .ensures .keeps x whole (container-due y (c .before .before .before .before .before .before .before .before .before .before .before .before .before .begin .ensures) (sym (c .before .before .before .before .before .before .before .before .before .class .ensures) ∙ c .before .before .before .before .before .before .before .before .if2 .left)) }
+returns-3 c =
+    let at-container = c .before .before in
+    let at-if2 = at-container .before .before .before .before .before .before in
+    let at-class = at-if2 .before in
+    let at-begin = at-class .before .before .before .before in
+    record {
+      onward = at-container .container .ensures .onward;
+      keeps = λ x whole y.
+          at-container .container .ensures .keeps x whole
+          (container-due y (at-begin .begin .ensures) (sym (at-class .class .ensures) ∙ at-if2 .if2 .left));
+    }
 
 pub value-spec : {M : Type 1} → statement M
 value-spec =
