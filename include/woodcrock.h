@@ -19,7 +19,7 @@
  *
  * What every call keeps. It ends. It reads nothing but what it is lent, writes nothing but `list`,
  * and keeps nothing after it returns, so that calls may run at once on several threads. It takes no
- * memory but its stack; docs/BENCHMARK.md says how much stack each call was measured to take.
+ * memory but its stack; README.md says how much stack each call was measured to take.
  *
  * Offsets and places count bytes from 0.
  */
