@@ -67,3 +67,6 @@ over-all (r ∷ rs) m b t h =
 -- a byte that is found stands in the text
 pub among-within : {ns s : List ℕ} {i : ℕ} → AmongAt ns s i true → i < length s
 among-within (byte h x) = h
+
+pub among-byte : {n : ℕ} {s : List ℕ} {i : ℕ} → AmongAt (n ∷ []) s i true → getD s i 0 ≡ n
+among-byte (byte h (this e)) = e

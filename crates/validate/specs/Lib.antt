@@ -1,10 +1,11 @@
 pub mod Among
+pub mod Blanks
 pub mod Checks
-pub mod Names
 pub mod Nesting
 pub mod Numbers
 pub mod Opened
 pub mod Scalars
 pub mod Strings
+pub mod Texts
 pub mod Turns
 pub mod Words

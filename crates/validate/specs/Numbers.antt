@@ -16,7 +16,7 @@ use Rattle.json.specs.Grammar.{Kind, array}
 use Rattle.json.specs.Room.{Room, endless}
 use Rattle.json.specs.Machine.{Ctl, item, after, afterMinus, afterZero, inInt, afterPoint, inFrac, afterE, afterSign, inExp, Stack, top, at, dead, Rule, one, span, exponentRules, afterRules, rules, step, final}
 use Rattle.json.specs.Steps.{Picks, inside, past, nowhere, landing, step-range, step-by, step-over}
-use Rattle.validate.specs.Among.{never, Among, this, other, no-more, AmongAt, byte, nothing, missed, each, among-picks, among-past}
+use Rattle.validate.specs.Among.{never, Among, this, other, no-more, AmongAt, byte, nothing, missed, each, among-picks, among-past, among-within}
 use Rattle.json.specs.Led.{Led, led-here, led-go, led-die, led-end, led-over, led-same, led-skip, led-on}
 
 -- a digit
@@ -81,24 +81,47 @@ led-digits {s} {r = r} w p g =
 abbrev pub Unpicked : List Rule → List ℕ → ℕ → Type 0
 Unpicked rs s i = i < length s → Picks rs (getD s i 0) none
 
+-- the control states in which the whole part of a number may be at its end, each with its rules for more of it
+pub data Whole : Ctl → List Rule → Type 0 where
+  zero : Whole afterZero []
+  int : Whole inInt (span 0x30 0x39 inInt ∷ [])
+
 -- the control states in which the digits of a number may be at their end, each with its rules for what may follow them, but for an exponent
 pub data Ends : Ctl → List Rule → Type 0 where
   zero : Ends afterZero (one 0x2E afterPoint ∷ [])
   int : Ends inInt (span 0x30 0x39 inInt ∷ one 0x2E afterPoint ∷ [])
   frac : Ends inFrac (span 0x30 0x39 inFrac ∷ [])
 
--- an exponent or nothing is read from place i on
-pub record Ending (s : List ℕ) (i : ℕ) (ok : Bool) (r : ℕ) : Type 0 where
-  pub led : {c : Ctl} {rs : List Rule} → Ends c rs → Unpicked rs s i → Led s i c after ok r
+-- from the control state c at place a the machine has come to place i, where the whole part, or the digits, are at their end
+pub data WholeAt (s : List ℕ) (a : ℕ) (c : Ctl) (i : ℕ) : Type 0 where
+  whole : {d : Ctl} {rs : List Rule} → Whole d rs → Led s a c d true i → Unpicked rs s i → WholeAt s a c i
 
--- the control states in which the whole part of a number may be at its end, each with its rules for more of it
-pub data Whole : Ctl → List Rule → Type 0 where
-  zero : Whole afterZero []
-  int : Whole inInt (span 0x30 0x39 inInt ∷ [])
+pub data EndAt (s : List ℕ) (a : ℕ) (c : Ctl) (i : ℕ) : Type 0 where
+  digits : {d : Ctl} {rs : List Rule} → Ends d rs → Led s a c d true i → Unpicked rs s i → EndAt s a c i
 
--- a fraction or none, and an exponent or nothing, are read from place i on
+-- the whole part of a number stands from place i up to place r, or there is none and r is i
+pub record WholePart (s : List ℕ) (i r : ℕ) : Type 0 where
+  pub forward : i ≤ r
+  pub within : r ≤ length s
+  pub none : r ≡ i → Led s i afterMinus after false i
+  pub some : (r ≡ i → ⊥) → WholeAt s i afterMinus r
+
+-- a fraction or none is read from place i on
 pub record Fraction (s : List ℕ) (i : ℕ) (ok : Bool) (r : ℕ) : Type 0 where
-  pub led : {c : Ctl} {rs : List Rule} → Whole c rs → Unpicked rs s i → Led s i c after ok r
+  pub forward : i ≤ r
+  pub within : r ≤ length s
+  pub refused : ok ≡ false → {a : ℕ} {c : Ctl} → WholeAt s a c i → Led s a c after false r
+  pub ended : ok ≡ true → {a : ℕ} {c : Ctl} → WholeAt s a c i → EndAt s a c r
+
+-- an exponent or nothing is read from place i on
+pub record Exponent (s : List ℕ) (i : ℕ) (ok : Bool) (r : ℕ) : Type 0 where
+  pub forward : i ≤ r
+  pub led : {a : ℕ} {c : Ctl} → EndAt s a c i → Led s a c after ok r
+
+-- a number that has no sign, or what follows the sign, is read from place i on
+pub record Number (s : List ℕ) (i : ℕ) (ok : Bool) (r : ℕ) : Type 0 where
+  pub moved : ok ≡ true → i < r
+  pub led : Led s i afterMinus after ok r
 
 -- laws
 
@@ -216,35 +239,40 @@ ends-final zero = refl
 ends-final int = refl
 ends-final frac = refl
 
-pub picks-append : {qs : List Rule} {b : ℕ} (rs : List Rule) {o : Option Rule} → Picks qs b none → Picks rs b o → Picks (qs ++ rs) b o
+picks-append : {qs : List Rule} {b : ℕ} (rs : List Rule) {o : Option Rule} → Picks qs b none → Picks rs b o → Picks (qs ++ rs) b o
 picks-append rs nowhere p = p
 picks-append rs (past f q) p = past f (picks-append rs q p)
 
+letter-step : {b : ℕ} → Among exponents b true → {c : Ctl} {rs : List Rule} → Ends c rs → Picks rs b none → (k : Stack) (ρ : Room) →
+    step (at c k ρ) b ≡ at afterE k ρ
+letter-step x {c} w u k ρ =
+    let e = among-picks afterE (afterRules (top k)) x in
+    step-by c k ρ {o = some (one (e .0) afterE)}
+    (rw (ends-rules w (top k)) (picks-append (each exponents afterE (afterRules (top k))) u (e .1)))
+
 module _ {s : List ℕ} {i : ℕ} where
-  pub ending-none : i ≤ length s → length s ≤ i → Ending s i true i
-  ending-none l h = record { led = λ {c} {rs} w u. led-over (led-here s i c l) after h (ends-final w) }
+  pub exponent-none : length s ≤ i → Exponent s i true i
+  exponent-none h = record { forward = omega arith; led = by }
+    where
+      by : {a : ℕ} {c : Ctl} → EndAt s a c i → Led s a c after true i
+      by (digits w p u) = led-over p after h (ends-final w)
 
   module _ (h : i < length s) where
-    pub ending-other : Among exponents (getD s i 0) false → Ending s i true i
-    ending-other x =
-        record {
-          led = λ {c} {rs} w u.
-              led-finish (led-here s i c (omega arith)) (rs ++ each exponents afterE [])
-              (λ k. ends-rules w (top k) ∙ sym (append-assoc rs (each exponents afterE []) (afterRules (top k))))
-              (ends-final w)
-              (λ l. picks-append (each exponents afterE []) (u l) (among-past afterE [] x nowhere));
-        }
-
-    pub ending-exponent : Among exponents (getD s i 0) true → {ok : Bool} {r : ℕ} → Led s (i + 1) afterE after ok r → Ending s i ok r
-    ending-exponent x p =
-        record {
-          led = λ {c} {rs} w u. led-on (led-go (led-here s i c (omega arith)) afterE h (λ k ρ. by w (u h) k ρ)) p;
-        }
+    pub exponent-other : Among exponents (getD s i 0) false → Exponent s i true i
+    exponent-other x = record { forward = omega arith; led = by }
       where
-        by : {c : Ctl} {rs : List Rule} → Ends c rs → Picks rs (getD s i 0) none → (k : Stack) (ρ : Room) → step (at c k ρ) (getD s i 0) ≡ at afterE k ρ
-        by {c} {rs} w u k ρ =
-            let e = among-picks afterE (afterRules (top k)) x in
-            step-by c k ρ {o = some (one (e .0) afterE)} (rw (ends-rules w (top k)) (picks-append (each exponents afterE (afterRules (top k))) u (e .1)))
+        by : {a : ℕ} {c : Ctl} → EndAt s a c i → Led s a c after true i
+        by (digits {d} {rs} w p u) =
+            led-finish p (rs ++ each exponents afterE [])
+            (λ k. ends-rules w (top k) ∙ sym (append-assoc rs (each exponents afterE []) (afterRules (top k))))
+            (ends-final w)
+            (λ l. picks-append (each exponents afterE []) (u l) (among-past afterE [] x nowhere))
+
+    pub exponent-some : Among exponents (getD s i 0) true → {ok : Bool} {r : ℕ} → Led s (i + 1) afterE after ok r → Exponent s i ok r
+    exponent-some x {ok} {r} q = record { forward = omega (arith, q .from); led = by }
+      where
+        by : {a : ℕ} {c : Ctl} → EndAt s a c i → Led s a c after ok r
+        by (digits w p u) = led-on (led-go p afterE h (λ k ρ. letter-step x w (u h) k ρ)) q
 
 -- what may follow the whole part of a number
 abbrev toPoint : List Rule
@@ -259,66 +287,109 @@ unfolding step
 point-step e zero k ρ = rw e refl
 point-step e int k ρ = rw e refl
 
+module _ {s : List ℕ} {i : ℕ} (l : i ≤ length s) {q : Bool} (x : AmongAt (0x2E ∷ []) s i q) where
+  -- no point stands there
+  pub fraction-none : q ≡ false → Fraction s i true i
+  fraction-none e = record { forward = omega arith; within = l; refused = λ z. never (sym z); ended = λ z. by (rw e at x) }
+    where
+      unpicked : AmongAt (0x2E ∷ []) s i false → i < length s → Picks toPoint (getD s i 0) none
+      unpicked (byte h (other n no-more)) k = past (missed n) nowhere
+      unpicked (nothing h) k = absurd (omega arith)
+
+      by : AmongAt (0x2E ∷ []) s i false → {a : ℕ} {c : Ctl} → WholeAt s a c i → EndAt s a c i
+      by y (whole w p u) = digits (whole-ends w) p (λ h. picks-append toPoint (u h) (unpicked y h))
+
+  -- a point, and the digits after it
+  module _ (e : q ≡ true) where
+    point-led : {a : ℕ} {c d : Ctl} {rs : List Rule} → Whole d rs → Led s a c d true i → Led s a c afterPoint true (i + 1)
+    point-led {a} {c} w p = by (rw e at x)
+      where
+        by : AmongAt (0x2E ∷ []) s i true → Led s a c afterPoint true (i + 1)
+        by (byte h (this n)) = led-go p afterPoint h (λ k ρ. point-step n w k ρ)
+
+    pub point-within : i + 1 ≤ length s
+    point-within = let h : i < length s = among-within (rw e at x) in omega arith
+
+    module _ {r : ℕ} (g : Run digit s (i + 1) r) where
+      pub fraction-empty : r ≡ i + 1 → Fraction s i false (i + 1)
+      fraction-empty z = record { forward = omega arith; within = point-within; refused = λ n. by; ended = λ n. never n }
+        where
+          by : {a : ℕ} {c : Ctl} → WholeAt s a c i → Led s a c after false (i + 1)
+          by (whole w p u) = digits-none point (point-led w p) g after z
+
+      pub fraction-some : (r ≡ i + 1 → ⊥) → Fraction s i true r
+      fraction-some z =
+          record { forward = omega (arith, g .passed .forward); within = g .passed .within; refused = λ n. never (sym n); ended = λ n. by }
+        where
+          by : {a : ℕ} {c : Ctl} → WholeAt s a c i → EndAt s a c r
+          by (whole w p u) = digits frac (digits-some point (point-led w p) g z) (λ h. unpicked-digit inFrac (not-digit _ (g .stop h)))
+
+-- the whole part
 module _ {s : List ℕ} {i : ℕ} where
-  pub fraction-none : i ≤ length s → length s ≤ i → Fraction s i true i
-  fraction-none l h = record { led = λ {c} {rs} w u. led-over (led-here s i c l) after h (ends-final (whole-ends w)) }
-
-  module _ (h : i < length s) where
-    pub fraction-other : (getD s i 0 ≡ 0x2E → ⊥) → {ok : Bool} {r : ℕ} → Ending s i ok r → Fraction s i ok r
-    fraction-other n p =
-        record { led = λ {c} {rs} w u. p .led (whole-ends w) (λ l. picks-append toPoint (u l) (past (λ x y. n (omega arith)) nowhere)) }
-
-    module _ (e : getD s i 0 ≡ 0x2E) where
-      point-led : {c : Ctl} {rs : List Rule} → Whole c rs → Led s i c afterPoint true (i + 1)
-      point-led {c} w = led-go (led-here s i c (omega arith)) afterPoint h (λ k ρ. point-step e w k ρ)
-
-      module _ {r : ℕ} (g : Run digit s (i + 1) r) where
-        pub fraction-empty : r ≡ i + 1 → Fraction s i false (i + 1)
-        fraction-empty q = record { led = λ {c} {rs} w u. digits-none point (point-led w) g after q }
-
-        pub fraction-some : (r ≡ i + 1 → ⊥) → {ok : Bool} {t : ℕ} → Ending s r ok t → Fraction s i ok t
-        fraction-some q p =
-            record {
-              led = λ {c} {rs} w u.
-                  led-on (digits-some point (point-led w) g q) (p .led frac (λ l. unpicked-digit inFrac (not-digit _ (g .stop l))));
-            }
-
--- a number that has no sign, or what follows the sign, is read from place i on
-pub record Number (s : List ℕ) (i : ℕ) (ok : Bool) (r : ℕ) : Type 0 where
-  pub moved : ok ≡ true → i < r
-  pub led : Led s i afterMinus after ok r
-
-refused-number : {s : List ℕ} {i : ℕ} → Led s i afterMinus after false i → Number s i false i
-refused-number p = record { moved = never; led = p }
-
-module _ {s : List ℕ} {i : ℕ} where
-  pub number-none : i ≤ length s → length s ≤ i → Number s i false i
-  number-none l h = refused-number (led-end (led-here s i afterMinus l) after h refl)
+  pub whole-none : i ≤ length s → length s ≤ i → WholePart s i i
+  whole-none l h =
+      record {
+        forward = omega arith;
+        within = l;
+        none = λ e. led-end (led-here s i afterMinus l) after h refl;
+        some = λ n. absurd (n refl);
+      }
 
   module _ (h : i < length s) where
     minus-here : Led s i afterMinus afterMinus true i
     minus-here = led-here s i afterMinus (omega arith)
 
-    pub number-wrong : NoDigit (getD s i 0) → Number s i false i
-    number-wrong n =
-        refused-number
-        (led-die minus-here after h
-        (λ k. step-by afterMinus k endless {o = none} (past (no-nonzero n) (past (missed (no-zero n)) nowhere))))
-
-    pub number-zero : getD s i 0 ≡ 0x30 → {ok : Bool} {r : ℕ} → Fraction s (i + 1) ok r → Number s i ok r
+    pub whole-zero : getD s i 0 ≡ 0x30 → WholePart s i (i + 1)
     unfolding step
-    number-zero e p =
-        let rest = p .led zero (λ l. nowhere) in
-        record { moved = λ x. omega (arith, rest .from); led = led-on (led-go minus-here afterZero h (λ k ρ. rw e refl)) rest }
-
-    pub number-some :
-        (getD s i 0 ≡ 0x30 → ⊥) → 0x30 ≤ getD s i 0 → getD s i 0 ≤ 0x39 → {r : ℕ} → Run digit s (i + 1) r → {ok : Bool} {t : ℕ} →
-        Fraction s r ok t → Number s i ok t
-    unfolding landing
-    number-some n l u g p =
-        let rest = p .led int (λ z. unpicked-digit inInt (not-digit _ (g .stop z))) in
-        let first = led-go minus-here inInt h (λ k ρ. step-range afterMinus k ρ 0x31 0x39 (getD s i 0) (at inInt k ρ) refl (omega (arith, n)) u) in
+    whole-zero e =
         record {
-          moved = λ x. omega (arith, g .passed .forward, rest .from);
-          led = led-on (led-digits int first (g .passed)) rest;
+          forward = omega arith;
+          within = omega arith;
+          none = λ z. absurd (omega arith);
+          some = λ n. whole zero (led-go minus-here afterZero h (λ k ρ. rw e refl)) (λ l. nowhere);
+        }
+
+    module _ (n : getD s i 0 ≡ 0x30 → ⊥) {r : ℕ} (g : Run digit s i r) where
+      first-digit : (r ≡ i → ⊥) → (0x31 ≤ getD s i 0) × (getD s i 0 ≤ 0x39)
+      first-digit z =
+          let l : i < r = omega (arith, g .passed .forward) in
+          let d = is-digit (getD s i 0) (g .passed .each i (omega arith) l) in
+          (omega (arith, n), d .1)
+
+      pub whole-digits : WholePart s i r
+      unfolding landing
+      whole-digits =
+          record {
+            forward = g .passed .forward;
+            within = g .passed .within;
+            none = λ z.
+                let d = not-digit (getD s i 0) (rw z at (g .stop) h) in
+                led-die minus-here after h (λ k. step-by afterMinus k endless {o = none} (past (no-nonzero d) (past (missed n) nowhere)));
+            some = λ z.
+                let d = first-digit z in
+                whole int
+                (led-digits int
+                (led-go minus-here inInt h (λ k ρ. step-range afterMinus k ρ 0x31 0x39 (getD s i 0) (at inInt k ρ) refl (d .0) (d .1)))
+                record {
+                  forward = omega (arith, g .passed .forward);
+                  within = g .passed .within;
+                  each = λ j x y. g .passed .each j (omega arith) y;
+                })
+                (λ l. unpicked-digit inInt (not-digit _ (g .stop l)));
+          }
+
+-- the parts of a number, one after the other
+module _ {s : List ℕ} {i w : ℕ} (p : WholePart s i w) where
+  pub number-none : w ≡ i → Number s i false i
+  number-none e = record { moved = never; led = p .none e }
+
+  module _ (n : w ≡ i → ⊥) {ok : Bool} {f : ℕ} (q : Fraction s w ok f) where
+    pub number-wrong : ok ≡ false → Number s i false f
+    number-wrong e = record { moved = never; led = q .refused e (p .some n) }
+
+    pub number-some : ok ≡ true → {ok′ : Bool} {r : ℕ} → Exponent s f ok′ r → Number s i ok′ r
+    number-some e x =
+        record {
+          moved = λ z. omega (arith, p .forward, q .forward, x .forward);
+          led = x .led (q .ended e (p .some n));
         }

@@ -2,100 +2,104 @@
 use mathlib.Core.Path.{_≡_, refl, sym, _∙_}
 use mathlib.Core.List.{List, [], _∷_}
 use mathlib.Core.Bool.{Bool, true, false}
+use mathlib.Core.Logic.{_⊎_, inl, inr}
 use mathlib.Core.Option.{none}
 use Prim.Native.Nat.{ℕ, _+_, _≤_, _<_}
 use native.Mathlib.Omega.{arith}
 use lib.Dec.{leb}
 use lib.ListN.{length, getD}
 use borrow.Author.Tests.{leb-true, leb-false}
-use Rattle.encoding.specs.Bytes.{Blank, space, tab, feed, return, blankByte}
 use Rattle.swar.specs.Kinds.{blank}
-use Rattle.swar.specs.KindLaws.{not-blank}
-use Rattle.json.specs.Grammar.{array}
+use Rattle.json.specs.Grammar.{array, object}
 use Rattle.json.specs.Room.{Room, endless}
-use Rattle.json.specs.Machine.{Ctl, item, after, wordDue, afterMinus, inInt, Stack, at, closeRules, rules, step}
+use Rattle.json.specs.Machine.{Ctl, valueDue, after, inString, wordDue, afterMinus, afterZero, inInt, Stack, at, Rule, one, opens, rules, step}
 use Rattle.json.specs.Steps.{Picks, past, nowhere, landing, step-range, step-by}
 use Rattle.json.specs.Led.{Led, led-here, led-go, led-die, led-same, led-on}
 use Rattle.validate.specs.Among.{never, missed}
-use Rattle.validate.specs.Numbers.{NoDigit, no-nonzero, no-zero, Number}
+use Rattle.validate.specs.Blanks.{past-blanks}
+use Rattle.validate.specs.Numbers.{NoDigit, over, digit-or-not, no-nonzero, no-zero, Number}
 
 -- a number or a literal name is read from place i on
 pub record Scalar (s : List ℕ) (i : ℕ) (ok : Bool) (r : ℕ) : Type 0 where
   pub moved : ok ≡ true → i < r
-  pub led : (f : Bool) → Led s i (item array f) after ok r
+  pub led : Led s i valueDue after ok r
 
--- a byte that begins neither a string nor a container, is no bracket that closes an array, and no blank
+-- a byte that begins neither a string nor a container, and is no blank
 pub record Bare (b : ℕ) : Type 0 where
   pub no-blank : blank b ≡ false
   pub no-quote : b ≡ 0x22 → ⊥
   pub no-array : b ≡ 0x5B → ⊥
   pub no-object : b ≡ 0x7B → ⊥
-  pub no-end : b ≡ 0x5D → ⊥
 
--- the first byte of a scalar, and what it makes due
+-- the first letter of a literal name, and what it makes due
 pub data Begins : ℕ → Ctl → Type 0 where
-  minus : Begins 0x2D afterMinus
   true-name : Begins 0x74 (wordDue 0x72 (0x75 ∷ 0x65 ∷ []))
   null-name : Begins 0x6E (wordDue 0x75 (0x6C ∷ 0x6C ∷ []))
   false-name : Begins 0x66 (wordDue 0x61 (0x6C ∷ 0x73 ∷ 0x65 ∷ []))
 
-begins-step : {n : ℕ} {d : Ctl} → Begins n d → (f : Bool) (k : Stack) (ρ : Room) {b : ℕ} → b ≡ n → step (at (item array f) k ρ) b ≡ at d k ρ
+begins-step : {n : ℕ} {d : Ctl} → Begins n d → (k : Stack) (ρ : Room) {b : ℕ} → b ≡ n → step (at valueDue k ρ) b ≡ at d k ρ
 unfolding step
-begins-step minus f k ρ e = rw e refl
-begins-step true-name f k ρ e = rw e refl
-begins-step null-name f k ρ e = rw e refl
-begins-step false-name f k ρ e = rw e refl
+begins-step true-name k ρ e = rw e refl
+begins-step null-name k ρ e = rw e refl
+begins-step false-name k ρ e = rw e refl
 
--- a digit is taken as after a minus sign
-digit-alike : (f : Bool) (k : Stack) (ρ : Room) (b : ℕ) → 0x30 ≤ b → b ≤ 0x39 → step (at (item array f) k ρ) b ≡ step (at afterMinus k ρ) b
-unfolding landing step
-digit-alike f k ρ b l h = by (leb 0x31 b) refl
-  where
-    by : (x : Bool) → leb 0x31 b ≡ x → step (at (item array f) k ρ) b ≡ step (at afterMinus k ρ) b
-    by true e =
-        let u = leb-true 0x31 b e in
-        step-range (item array f) k ρ 0x31 0x39 b (at inInt k ρ) refl u h ∙ sym (step-range afterMinus k ρ 0x31 0x39 b (at inInt k ρ) refl u h)
-    by false e = let z : b ≡ 0x30 = omega (arith, leb-false 0x31 b e) in rw z refl
-
--- no other byte begins a value
-module _ {b : ℕ} (w : Bare b) (d : NoDigit b) (m : b ≡ 0x2D → ⊥) (t : b ≡ 0x74 → ⊥) (n : b ≡ 0x6E → ⊥) (f : b ≡ 0x66 → ⊥) where
-  nothing-begins : (x : Bool) → Picks (rules (item array x) none) b none
-  nothing-begins x =
+-- a byte that begins no value
+module _ {b : ℕ} (w : Bare b) (d : NoDigit b) (m : b ≡ 0x2D → ⊥) (f : b ≡ 0x66 → ⊥) (n : b ≡ 0x6E → ⊥) (t : b ≡ 0x74 → ⊥) where
+  nothing-begins : Picks (rules valueDue none) b none
+  nothing-begins =
       past (no-nonzero d)
-      (past (missed (blanks space)) (past (missed (blanks feed)) (past (missed (blanks return)) (past (missed (blanks tab))
+      (past-blanks valueDue
+      (one 0x30 afterZero ∷ one 0x2D afterMinus ∷ one 0x22 (inString false) ∷ one 0x66 (wordDue 0x61 (0x6C ∷ 0x73 ∷ 0x65 ∷ [])) ∷
+      one 0x6E (wordDue 0x75 (0x6C ∷ 0x6C ∷ [])) ∷ one 0x74 (wordDue 0x72 (0x75 ∷ 0x65 ∷ [])) ∷ opens array ∷ opens object ∷ [])
+      (w .no-blank)
       (past (missed (no-zero d)) (past (missed m) (past (missed (w .no-quote))
-      (past (missed f) (past (missed n) (past (missed t) (past (missed (w .no-array)) (past (missed (w .no-object)) (end x)))))))))))))
-    where
-      blanks : (a : Blank) → b ≡ blankByte a → ⊥
-      blanks = not-blank (w .no-blank)
+      (past (missed f) (past (missed n) (past (missed t) (past (missed (w .no-array)) (past (missed (w .no-object)) nowhere)))))))))
 
-      end : (x : Bool) → Picks (closeRules x array) b none
-      end true = past (missed (w .no-end)) nowhere
-      end false = nowhere
+-- a byte that is neither a sign nor a letter of a literal name is taken as after a minus sign: a digit leads into a number, and others nowhere
+module _ {b : ℕ} (w : Bare b) (h : b ≤ 0x39) (m : b ≡ 0x2D → ⊥) (k : Stack) (ρ : Room) where
+  digit-alike : 0x30 ≤ b → step (at valueDue k ρ) b ≡ step (at afterMinus k ρ) b
+  unfolding landing step
+  digit-alike l = by (leb 0x31 b) refl
+    where
+      by : (x : Bool) → leb 0x31 b ≡ x → step (at valueDue k ρ) b ≡ step (at afterMinus k ρ) b
+      by true e =
+          let u = leb-true 0x31 b e in
+          step-range valueDue k ρ 0x31 0x39 b (at inInt k ρ) refl u h ∙ sym (step-range afterMinus k ρ 0x31 0x39 b (at inInt k ρ) refl u h)
+      by false e = let z : b ≡ 0x30 = omega (arith, leb-false 0x31 b e) in rw z refl
+
+  bare-alike : step (at valueDue k ρ) b ≡ step (at afterMinus k ρ) b
+  bare-alike = by (digit-or-not b)
+    where
+      by : NoDigit b ⊎ ((0x30 ≤ b) × (b ≤ 0x39)) → step (at valueDue k ρ) b ≡ step (at afterMinus k ρ) b
+      by (inl d) =
+          step-by valueDue k ρ {o = none} (nothing-begins w d m (λ e. omega arith) (λ e. omega arith) (λ e. omega arith))
+          ∙ sym (step-by afterMinus k ρ {o = none} (past (no-nonzero d) (past (missed (no-zero d)) nowhere)))
+      by (inr d) = digit-alike (d .0)
 
 module _ {s : List ℕ} {i : ℕ} (h : i < length s) where
-  scalar-here : (f : Bool) → Led s i (item array f) (item array f) true i
-  scalar-here f = led-here s i (item array f) (omega arith)
+  value-here : Led s i valueDue valueDue true i
+  value-here = led-here s i valueDue (omega arith)
 
-  pub scalar-begins : {n : ℕ} {d : Ctl} → Begins n d → getD s i 0 ≡ n → {ok : Bool} {r : ℕ} → Led s (i + 1) d after ok r → Scalar s i ok r
-  scalar-begins {d = d} w e p =
-      record {
-        moved = λ x. omega (arith, p .from);
-        led = λ f. led-on (led-go (scalar-here f) d h (λ k ρ. begins-step w f k ρ e)) p;
-      }
+  -- a number, by its sign or without one
+  pub minus-led : getD s i 0 ≡ 0x2D → Led s i valueDue afterMinus true (i + 1)
+  unfolding step
+  minus-led e = led-go value-here afterMinus h (λ k ρ. rw e refl)
 
-  pub scalar-digit : 0x30 ≤ getD s i 0 → getD s i 0 ≤ 0x39 → {ok : Bool} {r : ℕ} → Number s i ok r → Scalar s i ok r
-  scalar-digit l u p =
-      record {
-        moved = p .moved;
-        led = λ f. led-on (led-same (scalar-here f) afterMinus h (λ k ρ. digit-alike f k ρ (getD s i 0) l u)) (p .led);
-      }
+  pub bare-led : Bare (getD s i 0) → getD s i 0 ≤ 0x39 → (getD s i 0 ≡ 0x2D → ⊥) → Led s i valueDue afterMinus true i
+  bare-led w l m = led-same value-here afterMinus h (λ k ρ. bare-alike w l m k ρ)
 
-  pub scalar-wrong :
-      Bare (getD s i 0) → NoDigit (getD s i 0) → (getD s i 0 ≡ 0x2D → ⊥) → (getD s i 0 ≡ 0x74 → ⊥) → (getD s i 0 ≡ 0x6E → ⊥) →
-      (getD s i 0 ≡ 0x66 → ⊥) → Scalar s i false i
-  scalar-wrong w d m t n f =
+  -- a literal name
+  pub word-begins : {n : ℕ} {d : Ctl} → Begins n d → getD s i 0 ≡ n → {ok : Bool} {r : ℕ} → Led s (i + 1) d after ok r → Scalar s i ok r
+  word-begins {d = d} w e p =
+      record { moved = λ x. omega (arith, p .from); led = led-on (led-go value-here d h (λ k ρ. begins-step w k ρ e)) p }
+
+  pub word-wrong :
+      Bare (getD s i 0) → 0x39 < getD s i 0 → (getD s i 0 ≡ 0x74 → ⊥) → (getD s i 0 ≡ 0x6E → ⊥) → (getD s i 0 ≡ 0x66 → ⊥) → Scalar s i false i
+  word-wrong w l t n f =
       record {
         moved = never;
-        led = λ x. led-die (scalar-here x) after h (λ k. step-by (item array x) k endless {o = none} (nothing-begins w d m t n f x));
+        led = led-die value-here after h (λ k. step-by valueDue k endless {o = none} (nothing-begins w (over l) (λ e. omega arith) f n t));
       }
+
+pub number-scalar : {s : List ℕ} {i j : ℕ} → Led s i valueDue afterMinus true j → {ok : Bool} {r : ℕ} → Number s j ok r → Scalar s i ok r
+number-scalar p q = record { moved = λ e. omega (arith, p .from, q .moved e); led = led-on p (q .led) }

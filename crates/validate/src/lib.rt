@@ -4,6 +4,7 @@ ghost use lib.ListN.{length};
 ghost use Rattle.json.specs.Verdict.{textVerdict, recordVerdict};
 ghost use Rattle.validate.specs.Checks.{Answers};
 
+mod blanks;
 mod numbers;
 mod strings;
 mod turns;
@@ -32,8 +33,8 @@ fn check_text(text: &[u8]) -> Checked
     let rows = encoding::rows();
     let mut kinds: [u8; 512] = [0; 512];
     let mut depth: usize = 0;
-    let mut due = true;
-    let mut i = swar::blank_run(text, 0);
+    let mut due = turns::VALUE;
+    let mut i = blanks::blanks_end(text, 0);
     while i < text.len() {
         let turn = turns::take_turn(text, &rows, &mut kinds, i, depth, due);
         let at = turn.at;
@@ -45,9 +46,9 @@ fn check_text(text: &[u8]) -> Checked
         }
         depth = turn.depth;
         due = turn.due;
-        i = swar::blank_run(text, at);
+        i = blanks::blanks_end(text, at);
     }
-    if due {
+    if due != turns::AFTER {
         return Checked {
             ground: NO_JSON,
             place: i,

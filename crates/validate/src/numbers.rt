@@ -1,12 +1,14 @@
 // Numbers (RFC 8259 section 6).
 ghost use Prim.Native.Nat.{_≤_};
+ghost use mathlib.Core.Bool.{true};
 ghost use mathlib.Core.List.{[], _∷_};
 ghost use lib.ListN.{length};
 ghost use Rattle.swar.specs.Run.{Run};
 ghost use Rattle.json.specs.Machine.{after, afterE, afterSign};
 ghost use Rattle.json.specs.Led.{Led};
-ghost use Rattle.validate.specs.Among.{Among, AmongAt};
-ghost use Rattle.validate.specs.Numbers.{digit, Ending, Fraction, Number};
+ghost use Rattle.validate.specs.Among.{Among};
+ghost use Rattle.validate.specs.Numbers.{digit, Exponent, Fraction, Number, WholePart};
+use crate::words;
 use encoding::Scan;
 
 const POINT: u8 = 0x2E;
@@ -41,43 +43,37 @@ fn digits_end(s: &[u8], from: usize) -> usize
     i
 }
 
-// Reads the digits of an exponent, one at least. Refused where there is none, at the place of the first.
-fn power_end(s: &[u8], at: usize) -> Scan
+// The place after the sign that stands at `at`, or `at` where none does.
+fn sign_end(s: &[u8], at: usize) -> usize
     requires { ⌜ at ≤ length (now s) ⌝ }
-    ensures { λ r. ⌜ Led (now (s .entry)) at afterSign after (r .ok) (r .at) ⌝ }
-{
-    let end = digits_end(s, at);
-    if end == at {
-        return Scan { ok: false, at };
-    }
-    Scan { ok: true, at: end }
-}
-
-// Whether a plus or a minus sign stands at `at`.
-fn sign_at(s: &[u8], at: usize) -> bool
-    ensures { λ r. ⌜ AmongAt (0x2B ∷ 0x2D ∷ []) (now (s .entry)) at r ⌝ }
+    ensures { λ r. ⌜ Led (now (s .entry)) at afterE afterSign true r ⌝ }
 {
     if at >= s.len() {
-        return false;
+        return at;
     }
     if s[at] == PLUS {
-        return true;
+        return at + 1;
     }
     if s[at] == MINUS {
-        return true;
+        return at + 1;
     }
-    false
+    at
 }
 
-// Reads what follows the letter of an exponent: a sign or none, and digits.
-fn exponent_end(s: &[u8], at: usize) -> Scan
+// Reads what follows the letter of an exponent: a sign or none, and digits. Refused where no digit stands, at the place of the first.
+fn power_end(s: &[u8], at: usize) -> Scan
     requires { ⌜ at ≤ length (now s) ⌝ }
     ensures { λ r. ⌜ Led (now (s .entry)) at afterE after (r .ok) (r .at) ⌝ }
 {
-    if sign_at(s, at) {
-        return power_end(s, at + 1);
+    let first = sign_end(s, at);
+    let end = digits_end(s, first);
+    if end == first {
+        return Scan {
+            ok: false,
+            at: first,
+        };
     }
-    power_end(s, at)
+    Scan { ok: true, at: end }
 }
 
 // Whether `b` is the letter of an exponent.
@@ -93,10 +89,10 @@ fn is_exponent(b: u8) -> bool
     false
 }
 
-// Reads what may follow the digits of a number: an exponent or nothing.
-fn ending_end(s: &[u8], at: usize) -> Scan
+// Reads an exponent, or nothing where none stands.
+fn exponent_end(s: &[u8], at: usize) -> Scan
     requires { ⌜ at ≤ length (now s) ⌝ }
-    ensures { λ r. ⌜ Ending (now (s .entry)) at (r .ok) (r .at) ⌝ }
+    ensures { λ r. ⌜ Exponent (now (s .entry)) at (r .ok) (r .at) ⌝ }
 {
     if at >= s.len() {
         return Scan { ok: true, at };
@@ -104,19 +100,16 @@ fn ending_end(s: &[u8], at: usize) -> Scan
     if !is_exponent(s[at]) {
         return Scan { ok: true, at };
     }
-    exponent_end(s, at + 1)
+    power_end(s, at + 1)
 }
 
-// Reads what may follow the whole part of a number: a fraction or none, an exponent or none.
+// Reads a fraction, or nothing where no point stands. Refused where no digit follows the point.
 fn fraction_end(s: &[u8], at: usize) -> Scan
     requires { ⌜ at ≤ length (now s) ⌝ }
     ensures { λ r. ⌜ Fraction (now (s .entry)) at (r .ok) (r .at) ⌝ }
 {
-    if at >= s.len() {
+    if !words::byte_at(s, at, POINT) {
         return Scan { ok: true, at };
-    }
-    if s[at] != POINT {
-        return ending_end(s, at);
     }
     let first = at + 1;
     let end = digits_end(s, first);
@@ -126,7 +119,21 @@ fn fraction_end(s: &[u8], at: usize) -> Scan
             at: first,
         };
     }
-    ending_end(s, end)
+    Scan { ok: true, at: end }
+}
+
+// The place after the whole part of a number, a nought or digits that begin with another, or `at` where there is none.
+fn whole_end(s: &[u8], at: usize) -> usize
+    requires { ⌜ at ≤ length (now s) ⌝ }
+    ensures { λ r. ⌜ WholePart (now (s .entry)) at r ⌝ }
+{
+    if at >= s.len() {
+        return at;
+    }
+    if s[at] == ZERO {
+        return at + 1;
+    }
+    digits_end(s, at)
 }
 
 // Reads a number that has no sign, or what follows its sign.
@@ -134,18 +141,14 @@ pub fn number_end(s: &[u8], at: usize) -> Scan
     requires { ⌜ at ≤ length (now s) ⌝ }
     ensures { λ r. ⌜ Number (now (s .entry)) at (r .ok) (r .at) ⌝ }
 {
-    if at >= s.len() {
+    let whole = whole_end(s, at);
+    if whole == at {
         return Scan { ok: false, at };
     }
-    if s[at] == ZERO {
-        return fraction_end(s, at + 1);
+    let fraction = fraction_end(s, whole);
+    let end = fraction.at;
+    if !fraction.ok {
+        return Scan { ok: false, at: end };
     }
-    if s[at] < ZERO {
-        return Scan { ok: false, at };
-    }
-    if s[at] > NINE {
-        return Scan { ok: false, at };
-    }
-    let end = digits_end(s, at + 1);
-    fraction_end(s, end)
+    exponent_end(s, end)
 }

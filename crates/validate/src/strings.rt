@@ -6,6 +6,8 @@ ghost use Prim.Native.Nat.{_≤_, _<_};
 ghost use lib.ListN.{length, getD};
 ghost use Rattle.encoding.specs.RowTable.{RowTable};
 ghost use Rattle.swar.specs.KindLaws.{NotPlain};
+ghost use Rattle.swar.specs.Kinds.{plain};
+ghost use Rattle.swar.specs.Run.{Run};
 ghost use Rattle.json.specs.Machine.{inString, escaping, hexDue, closed};
 ghost use Rattle.json.specs.Led.{Led};
 ghost use Rattle.validate.specs.Among.{Among};
@@ -134,6 +136,20 @@ fn character_end(s: &[u8], rows: &[u8; 45], at: usize) -> Scan
     Scan { ok: false, at }
 }
 
+// The end of the plain bytes from `at` on: at once where a code point from 80 (hexadecimal) on stands there.
+fn plain_end(s: &[u8], at: usize) -> usize
+    requires { ⌜ at ≤ length (now s) ⌝ }
+    ensures { λ r. ⌜ Run plain (now (s .entry)) at r ⌝ }
+{
+    if at >= s.len() {
+        return at;
+    }
+    if s[at] >= WIDE {
+        return at;
+    }
+    swar::plain_run(s, at)
+}
+
 // Reads a string from what follows its opening quote up to the place after its closing quote.
 pub fn string_end(s: &[u8], rows: &[u8; 45], from: usize) -> Scan
     requires { ⌜ RowTable (now rows) × (from ≤ length (now s)) ⌝ }
@@ -152,7 +168,7 @@ pub fn string_end(s: &[u8], rows: &[u8; 45], from: usize) -> Scan
         if !character.ok {
             return Scan { ok: false, at };
         }
-        i = swar::plain_run(s, at);
+        i = plain_end(s, at);
     }
     Scan { ok: false, at: i }
 }

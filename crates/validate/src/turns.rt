@@ -1,12 +1,17 @@
-// The turns of the check: a value that is due, or what follows a value, with the containers around it.
-ghost use mathlib.Core.Bool.{Bool, true, false};
+// The turns of the check: what is due is read, and the containers around it are kept.
+ghost use mathlib.Core.Bool.{true};
 ghost use mathlib.Core.Path.{_≡_};
 ghost use Prim.Native.Nat.{_≤_, _<_};
 ghost use lib.ListN.{length, getD};
 ghost use Rattle.encoding.specs.RowTable.{RowTable};
-ghost use Rattle.validate.specs.Names.{Named};
+ghost use Rattle.json.specs.Grammar as grammar;
+ghost use Rattle.json.specs.Led.{Led};
+ghost use Rattle.json.specs.Machine.{afterMinus, valueDue};
+ghost use Rattle.validate.specs.Nesting.{kindOf};
 ghost use Rattle.validate.specs.Scalars.{Bare, Scalar};
-ghost use Rattle.validate.specs.Turns.{standing, Ready, Turned, TurnTo, Opens};
+ghost use Rattle.validate.specs.Texts.{Texted};
+ghost use Rattle.validate.specs.Turns.{standing, ItemDue, Opens, Ready, Turned, TurnTo};
+use crate::blanks;
 use crate::numbers;
 use crate::strings;
 use crate::words;
@@ -20,6 +25,13 @@ const ARRAY: u8 = 0;
 
 const OBJECT: u8 = 1;
 
+// What is due: a value, a member's name, or what follows a value.
+pub const VALUE: u8 = 0;
+
+pub const NAME: u8 = 1;
+
+pub const AFTER: u8 = 2;
+
 // Grounds of refusal, and that of none.
 const NO_GROUND: u8 = 0;
 
@@ -27,16 +39,16 @@ const NO_JSON: u8 = 5;
 
 const TOO_DEEP: u8 = 6;
 
-// Where a turn has come to: whether a value is due there, at a depth; or, with a ground, the place of the refusal.
+// Where a turn has come to: what is due there, at a depth; or, with a ground, the place of the refusal.
 pub struct Turn {
     pub ground: u8,
     pub at: usize,
     pub depth: usize,
-    pub due: bool,
+    pub due: u8,
 }
 
 // A turn to place `at`, or, where `ok` is false, the refusal of the byte there.
-fn turn_to(ok: bool, at: usize, depth: usize, due: bool) -> Turn
+fn turn_to(ok: bool, at: usize, depth: usize, due: u8) -> Turn
     ensures { λ r. ⌜ TurnTo ok at depth due (r .ground) (r .at) (r .depth) (r .due) ⌝ }
 {
     if ok {
@@ -55,42 +67,43 @@ fn turn_to(ok: bool, at: usize, depth: usize, due: bool) -> Turn
     }
 }
 
-// Reads a member's name and its colon, up to where its value is due.
-fn name_end(s: &[u8], rows: &[u8; 45], from: usize) -> Scan
-    requires { ⌜ RowTable (now rows) × (from ≤ length (now s)) ⌝ }
-    ensures { λ r. ⌜ Named (now (s .entry)) from (r .ok) (r .at) ⌝ }
+// What is due as an item of a container of this kind.
+fn item_due(kind: u8) -> u8
+    ensures { λ r. ⌜ ItemDue kind r ⌝ }
 {
-    let at = swar::blank_run(s, from);
-    if !words::byte_at(s, at, b'"') {
-        return Scan { ok: false, at };
+    if kind == ARRAY {
+        return VALUE;
     }
-    let name = strings::string_end(s, rows, at + 1);
-    let end = name.at;
-    if !name.ok {
-        return Scan { ok: false, at: end };
-    }
-    let colon = swar::blank_run(s, end);
-    if !words::byte_at(s, colon, b':') {
-        return Scan {
-            ok: false,
-            at: colon,
-        };
-    }
-    Scan {
-        ok: true,
-        at: colon + 1,
-    }
+    NAME
 }
 
-// Reads a number or a literal name, where a byte stands that begins neither a string nor a container.
-fn scalar_end(s: &[u8], at: usize) -> Scan
-    requires { ⌜ (at < length (now s)) × Bare (getD (now s) at 0) ⌝ }
+// The bracket that closes a container of this kind.
+fn closing(kind: u8) -> u8
+    ensures { λ r. ⌜ r ≡ grammar.closing (kindOf kind) ⌝ }
+{
+    if kind == ARRAY {
+        return b']';
+    }
+    b'}'
+}
+
+// The place after the minus sign that stands at `at`, or `at` where none does.
+fn minus_end(s: &[u8], at: usize) -> usize
+    requires { ⌜ (at < length (now s)) × Bare (getD (now s) at 0) × (getD (now s) at 0 ≤ 0x39) ⌝ }
+    ensures { λ r. ⌜ Led (now (s .entry)) at valueDue afterMinus true r ⌝ }
+{
+    if s[at] == b'-' {
+        return at + 1;
+    }
+    at
+}
+
+// Reads a literal name.
+fn word_end(s: &[u8], at: usize) -> Scan
+    requires { ⌜ (at < length (now s)) × Bare (getD (now s) at 0) × (0x39 < getD (now s) at 0) ⌝ }
     ensures { λ r. ⌜ Scalar (now (s .entry)) at (r .ok) (r .at) ⌝ }
 {
     let b = s[at];
-    if b == b'-' {
-        return numbers::number_end(s, at + 1);
-    }
     if b == b't' {
         return words::letters_end(s, at + 1, b'r', b'u', b'e');
     }
@@ -100,114 +113,118 @@ fn scalar_end(s: &[u8], at: usize) -> Scan
     if b == b'f' {
         return words::false_end(s, at + 1);
     }
-    if b < b'0' {
-        return Scan { ok: false, at };
-    }
-    if b > b'9' {
-        return Scan { ok: false, at };
-    }
-    numbers::number_end(s, at)
+    Scan { ok: false, at }
 }
 
-// Opens a container at its bracket, and closes it where it is empty; in an object up to where the value of its first member is due.
-fn open(
-    s: &[u8],
-    rows: &[u8; 45],
-    kinds: &mut [u8; 512],
-    at: usize,
-    depth: usize,
-    kind: u8,
-    close: u8,
-) -> Turn
-    requires { ⌜ RowTable (now rows) × Ready (now s) (now kinds) depth at × Opens kind close (getD (now s) at 0) ⌝ }
-    ensures { λ r. ⌜ Turned (standing (now (s .entry)) true (now (kinds .entry)) depth at) (now (s .entry)) at (now (kinds .exit)) (r .ground) (r .at) (r .depth) (r .due) ⌝ }
+// Reads a number or a literal name, where a byte stands that begins neither a string nor a container.
+fn scalar_end(s: &[u8], at: usize) -> Scan
+    requires { ⌜ (at < length (now s)) × Bare (getD (now s) at 0) ⌝ }
+    ensures { λ r. ⌜ Scalar (now (s .entry)) at (r .ok) (r .at) ⌝ }
+{
+    if s[at] > b'9' {
+        return word_end(s, at);
+    }
+    let first = minus_end(s, at);
+    numbers::number_end(s, first)
+}
+
+// Opens a container at its bracket, up to where its first item is due, and closes it where it is empty.
+fn open(s: &[u8], kinds: &mut [u8; 512], at: usize, depth: usize, kind: u8) -> Turn
+    requires { ⌜ Ready (now s) (now kinds) depth at × Opens kind (getD (now s) at 0) ⌝ }
+    ensures { λ r. ⌜ Turned (standing (now (s .entry)) 0 (now (kinds .entry)) depth at) (now (s .entry)) at (now (kinds .exit)) (r .ground) (r .at) (r .depth) (r .due) ⌝ }
 {
     if depth >= MAX_DEPTH {
         return Turn {
             ground: TOO_DEEP,
             at,
             depth,
-            due: true,
+            due: VALUE,
         };
     }
     kinds[depth] = kind;
-    let next = swar::blank_run(s, at + 1);
-    if words::byte_at(s, next, close) {
-        return turn_to(true, next + 1, depth, false);
+    let next = blanks::blanks_end(s, at + 1);
+    if words::byte_at(s, next, closing(kind)) {
+        return turn_to(true, next + 1, depth, AFTER);
     }
-    if kind == ARRAY {
-        return turn_to(true, next, depth + 1, true);
-    }
-    let name = name_end(s, rows, next);
-    turn_to(name.ok, name.at, depth + 1, true)
+    turn_to(true, next, depth + 1, item_due(kind))
 }
 
-// Reads a value, up to its end or into a container.
-fn value(s: &[u8], rows: &[u8; 45], kinds: &mut [u8; 512], at: usize, depth: usize) -> Turn
-    requires { ⌜ RowTable (now rows) × Ready (now s) (now kinds) depth at ⌝ }
-    ensures { λ r. ⌜ Turned (standing (now (s .entry)) true (now (kinds .entry)) depth at) (now (s .entry)) at (now (kinds .exit)) (r .ground) (r .at) (r .depth) (r .due) ⌝ }
+// Reads a value that is no string, up to its end or into a container.
+fn value(s: &[u8], kinds: &mut [u8; 512], at: usize, depth: usize) -> Turn
+    requires { ⌜ Ready (now s) (now kinds) depth at × (getD (now s) at 0 ≡ 0x22 → ⊥) ⌝ }
+    ensures { λ r. ⌜ Turned (standing (now (s .entry)) 0 (now (kinds .entry)) depth at) (now (s .entry)) at (now (kinds .exit)) (r .ground) (r .at) (r .depth) (r .due) ⌝ }
 {
     let b = s[at];
-    if b == b'"' {
-        let string = strings::string_end(s, rows, at + 1);
-        return turn_to(string.ok, string.at, depth, false);
-    }
     if b == b'{' {
-        return open(s, rows, kinds, at, depth, OBJECT, b'}');
+        return open(s, kinds, at, depth, OBJECT);
     }
     if b == b'[' {
-        return open(s, rows, kinds, at, depth, ARRAY, b']');
-    }
-    if b == b']' {
-        return turn_to(false, at, depth, true);
+        return open(s, kinds, at, depth, ARRAY);
     }
     let scalar = scalar_end(s, at);
-    turn_to(scalar.ok, scalar.at, depth, false)
+    turn_to(scalar.ok, scalar.at, depth, AFTER)
 }
 
-// Reads what follows a value: a comma and in an object a name, or the bracket that closes the container.
-fn separator(s: &[u8], rows: &[u8; 45], kinds: &[u8; 512], at: usize, depth: usize) -> Turn
-    requires { ⌜ RowTable (now rows) × Ready (now s) (now kinds) depth at ⌝ }
-    ensures { λ r. ⌜ Turned (standing (now (s .entry)) false (now (kinds .entry)) depth at) (now (s .entry)) at (now (kinds .entry)) (r .ground) (r .at) (r .depth) (r .due) ⌝ }
+// Reads a string, where a value or a name is due, and the colon after a name.
+fn text(s: &[u8], rows: &[u8; 45], at: usize, depth: usize, due: u8) -> Turn
+    requires { ⌜ RowTable (now rows) × (at < length (now s)) × (getD (now s) at 0 ≡ 0x22) × (due < 2) ⌝ }
+    ensures { λ r. ⌜ Texted (now (s .entry)) at depth due (r .ground) (r .at) (r .depth) (r .due) ⌝ }
+{
+    let string = strings::string_end(s, rows, at + 1);
+    let end = string.at;
+    if !string.ok {
+        return turn_to(false, end, depth, AFTER);
+    }
+    if due == VALUE {
+        return turn_to(true, end, depth, AFTER);
+    }
+    let colon = blanks::blanks_end(s, end);
+    if !words::byte_at(s, colon, b':') {
+        return turn_to(false, colon, depth, VALUE);
+    }
+    turn_to(true, colon + 1, depth, VALUE)
+}
+
+// Reads what follows a value: a comma, or the bracket that closes the container around it.
+fn separator(s: &[u8], kinds: &[u8; 512], at: usize, depth: usize) -> Turn
+    requires { ⌜ Ready (now s) (now kinds) depth at ⌝ }
+    ensures { λ r. ⌜ Turned (standing (now (s .entry)) 2 (now (kinds .entry)) depth at) (now (s .entry)) at (now (kinds .entry)) (r .ground) (r .at) (r .depth) (r .due) ⌝ }
 {
     if depth == 0 {
-        return turn_to(false, at, depth, false);
+        return turn_to(false, at, depth, AFTER);
     }
     let b = s[at];
     let inner = depth - 1;
-    if kinds[inner] == ARRAY {
-        if b == b',' {
-            return turn_to(true, at + 1, depth, true);
-        }
-        if b == b']' {
-            return turn_to(true, at + 1, inner, false);
-        }
-        return turn_to(false, at, depth, false);
-    }
+    let kind = kinds[inner];
     if b == b',' {
-        let name = name_end(s, rows, at + 1);
-        return turn_to(name.ok, name.at, depth, true);
+        return turn_to(true, at + 1, depth, item_due(kind));
     }
-    if b == b'}' {
-        return turn_to(true, at + 1, inner, false);
+    if b == closing(kind) {
+        return turn_to(true, at + 1, inner, AFTER);
     }
-    turn_to(false, at, depth, false)
+    turn_to(false, at, depth, AFTER)
 }
 
-// One turn, by what is due.
+// One turn, by what is due and then by the byte.
 pub fn take_turn(
     s: &[u8],
     rows: &[u8; 45],
     kinds: &mut [u8; 512],
     at: usize,
     depth: usize,
-    due: bool,
+    due: u8,
 ) -> Turn
-    requires { ⌜ RowTable (now rows) × Ready (now s) (now kinds) depth at ⌝ }
+    requires { ⌜ RowTable (now rows) × Ready (now s) (now kinds) depth at × (due ≤ 2) ⌝ }
     ensures { λ r. ⌜ Turned (standing (now (s .entry)) due (now (kinds .entry)) depth at) (now (s .entry)) at (now (kinds .exit)) (r .ground) (r .at) (r .depth) (r .due) ⌝ }
 {
-    if due {
-        return value(s, rows, kinds, at, depth);
+    if due == AFTER {
+        return separator(s, kinds, at, depth);
     }
-    separator(s, rows, kinds, at, depth)
+    if s[at] == b'"' {
+        return text(s, rows, at, depth, due);
+    }
+    if due == NAME {
+        return turn_to(false, at, depth, due);
+    }
+    value(s, kinds, at, depth)
 }

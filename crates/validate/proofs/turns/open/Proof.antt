@@ -1,20 +1,23 @@
 -- `validate::turns::open` meets its contract: there is no room for the container, or it is empty, or its first item is due. Assumes nothing.
-use Rattle.validate.specs.Turns.{open-deep, open-empty, open-array, open-object}
+use Rattle.validate.specs.Turns.{open-deep, open-empty, open-item}
 use borrow.Author.Needs.{needs}
 use Rattle.validate.proofs.turns.open.Statement.{statement}
 use Rattle.validate.proofs.turns.open.Tie as tie
 
 returns : tie.Need-returns
-returns c = open-deep (c .before .before .pre .1) (c .before .before .pre .2) (c .if1 .taken)
+returns c = open-deep (c .before .before .pre .0) (c .before .before .pre .1) (c .if1 .taken)
 
 element-write-kinds : tie.Need-element-write-kinds
 element-write-kinds c = search needs
 
-add-blank-run : tie.Need-add-blank-run
-add-blank-run c = search needs
+add-blanks-end : tie.Need-add-blanks-end
+add-blanks-end c = search needs
 
-blank-run-requires : tie.Need-blank-run-requires
-blank-run-requires c κs = search needs
+blanks-end-requires : tie.Need-blanks-end-requires
+blanks-end-requires c κs = search needs
+
+closing-requires : tie.Need-closing-requires
+closing-requires c κs = search needs
 
 byte-at-requires : tie.Need-byte-at-requires
 byte-at-requires c κs = search needs
@@ -26,28 +29,19 @@ turn-to-requires : tie.Need-turn-to-requires
 turn-to-requires c κs = search needs
 
 returns-2 : tie.Need-returns-2
-returns-2 c = open-empty (c .before .before .before .before .before .before .pre .1) (c .before .before .before .before .before .before .pre .2) (c .before .before .before .before .if1 .left) (c .before .before .before .blank-run .ensures) (c .before .before .byte-at .ensures) (c .before .if2 .taken) (c .turn-to .ensures)
+returns-2 c = open-empty (c .before .before .before .before .before .before .before .pre .0) (c .before .before .before .before .before .before .before .pre .1) (c .before .before .before .before .before .if1 .left) (c .before .before .before .before .blanks-end .ensures) (c .before .before .before .closing .ensures) (c .before .before .byte-at .ensures) (c .before .if2 .taken) (c .turn-to .ensures)
 
 add-turn-to-2 : tie.Need-add-turn-to-2
 add-turn-to-2 c = search needs
+
+item-due-requires : tie.Need-item-due-requires
+item-due-requires c κs = search needs
 
 turn-to-requires-2 : tie.Need-turn-to-requires-2
 turn-to-requires-2 c κs = search needs
 
 returns-3 : tie.Need-returns-3
-returns-3 c = open-array (c .before .before .before .before .before .before .before .pre .1) (c .before .before .before .before .before .before .before .pre .2) (c .before .before .before .before .before .if1 .left) (c .before .before .before .before .blank-run .ensures) (c .before .before .before .byte-at .ensures) (c .before .before .if2 .left) (c .before .if3 .taken) (c .turn-to2 .ensures)
-
-name-end-requires : tie.Need-name-end-requires
-name-end-requires c κs = search needs
-
-add-turn-to-3 : tie.Need-add-turn-to-3
-add-turn-to-3 c = search needs
-
-turn-to-requires-3 : tie.Need-turn-to-requires-3
-turn-to-requires-3 c κs = search needs
-
-returns-4 : tie.Need-returns-4
-returns-4 c = open-object (c .before .before .before .before .before .before .before .before .pre .1) (c .before .before .before .before .before .before .before .before .pre .2) (c .before .before .before .before .before .before .if1 .left) (c .before .before .before .before .before .blank-run .ensures) (c .before .before .before .before .byte-at .ensures) (c .before .before .before .if2 .left) (c .before .before .if3 .left) (c .before .name-end .ensures) (c .turn-to3 .ensures)
+returns-3 c = open-item (c .before .before .before .before .before .before .before .before .pre .0) (c .before .before .before .before .before .before .before .before .pre .1) (c .before .before .before .before .before .before .if1 .left) (c .before .before .before .before .before .blanks-end .ensures) (c .before .before .before .before .closing .ensures) (c .before .before .before .byte-at .ensures) (c .before .before .if2 .left) (c .before .item-due .ensures) (c .turn-to2 .ensures)
 
 pub open-spec : {M : Type 1} → statement M
 open-spec =
@@ -55,16 +49,14 @@ open-spec =
     (tie.spec
     returns
     element-write-kinds
-    add-blank-run
-    blank-run-requires
+    add-blanks-end
+    blanks-end-requires
+    closing-requires
     byte-at-requires
     add-turn-to
     turn-to-requires
     returns-2
     add-turn-to-2
+    item-due-requires
     turn-to-requires-2
-    returns-3
-    name-end-requires
-    add-turn-to-3
-    turn-to-requires-3
-    returns-4)
+    returns-3)

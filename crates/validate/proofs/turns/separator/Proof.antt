@@ -1,8 +1,7 @@
--- `validate::turns::separator` meets its contract: after the outermost value, in an array and in an object. Assumes nothing.
-use mathlib.Core.Path.{ap, sym, _∙_}
-use Rattle.json.specs.Grammar.{closing}
-use Rattle.validate.specs.Nesting.{kindOf, object-kind}
-use Rattle.validate.specs.Turns.{after-all, close-turn, wrong-turn, comma-array, comma-object}
+-- `validate::turns::separator` meets its contract: after the outermost value, at a comma, at the closing bracket and at any other byte.
+-- Assumes nothing.
+use mathlib.Core.Path.{sym, _∙_}
+use Rattle.validate.specs.Turns.{after-all, comma-turn, close-turn, wrong-turn}
 use borrow.Author.Needs.{needs}
 use Rattle.validate.proofs.turns.separator.Statement.{statement}
 use Rattle.validate.proofs.turns.separator.Tie as tie
@@ -11,7 +10,7 @@ turn-to-requires : tie.Need-turn-to-requires
 turn-to-requires c κs = search needs
 
 returns : tie.Need-returns
-returns c = after-all (c .before .before .before .pre .1) (c .before .if1 .taken) (c .turn-to .ensures)
+returns c = after-all (c .before .before .before .pre) (c .before .if1 .taken) (c .turn-to .ensures)
 
 shared-slice-read-b : tie.Need-shared-slice-read-b
 shared-slice-read-b c = search needs
@@ -19,17 +18,23 @@ shared-slice-read-b c = search needs
 sub-inner : tie.Need-sub-inner
 sub-inner c = search needs
 
-element-copy-out-if2 : tie.Need-element-copy-out-if2
-element-copy-out-if2 c = search needs
+element-copy-out-kind : tie.Need-element-copy-out-kind
+element-copy-out-kind c = search needs
 
 add-turn-to : tie.Need-add-turn-to
 add-turn-to c = search needs
+
+item-due-requires : tie.Need-item-due-requires
+item-due-requires c κs = search needs
 
 turn-to-requires-2 : tie.Need-turn-to-requires-2
 turn-to-requires-2 c κs = search needs
 
 returns-2 : tie.Need-returns-2
-returns-2 c = comma-array (c .before .before .before .before .before .before .before .pre .1) (c .before .before .before .before .before .if1 .left) (c .before .if3 .taken) (ap kindOf (c .before .before .if2 .taken)) (c .turn-to2 .ensures)
+returns-2 c = comma-turn (c .before .before .before .before .before .before .before .pre) (c .before .before .before .before .before .if1 .left) (c .before .before .if2 .taken) (c .before .item-due .ensures) (c .turn-to2 .ensures)
+
+closing-requires : tie.Need-closing-requires
+closing-requires c κs = search needs
 
 add-turn-to-2 : tie.Need-add-turn-to-2
 add-turn-to-2 c = search needs
@@ -38,40 +43,13 @@ turn-to-requires-3 : tie.Need-turn-to-requires-3
 turn-to-requires-3 c κs = search needs
 
 returns-3 : tie.Need-returns-3
-returns-3 c = close-turn (c .before .before .before .before .before .before .before .before .pre .1) (c .before .before .before .before .before .before .if1 .left) (c .before .if4 .taken ∙ sym (ap (λ n. closing (kindOf n)) (c .before .before .before .if2 .taken))) (c .turn-to3 .ensures)
+returns-3 c = close-turn (c .before .before .before .before .before .before .before .before .pre) (c .before .before .before .before .before .before .if1 .left) (c .before .if3 .taken ∙ c .before .before .closing .ensures) (c .turn-to3 .ensures)
 
 turn-to-requires-4 : tie.Need-turn-to-requires-4
 turn-to-requires-4 c κs = search needs
 
 returns-4 : tie.Need-returns-4
-returns-4 c = wrong-turn (c .before .before .before .before .before .before .before .before .pre .1) (c .before .before .before .before .before .before .if1 .left) (c .before .before .if3 .left) (λ e. c .before .if4 .left (e ∙ ap (λ n. closing (kindOf n)) (c .before .before .before .if2 .taken))) (c .turn-to4 .ensures)
-
-add-name-end : tie.Need-add-name-end
-add-name-end c = search needs
-
-name-end-requires : tie.Need-name-end-requires
-name-end-requires c κs = search needs
-
-turn-to-requires-5 : tie.Need-turn-to-requires-5
-turn-to-requires-5 c κs = search needs
-
-returns-5 : tie.Need-returns-5
-returns-5 c = comma-object (c .before .before .before .before .before .before .before .before .pre .1) (c .before .before .before .before .before .before .if1 .left) (c .before .before .if5 .taken) (object-kind _ (c .before .before .before .if2 .left)) (c .before .name-end .ensures) (c .turn-to5 .ensures)
-
-add-turn-to-3 : tie.Need-add-turn-to-3
-add-turn-to-3 c = search needs
-
-turn-to-requires-6 : tie.Need-turn-to-requires-6
-turn-to-requires-6 c κs = search needs
-
-returns-6 : tie.Need-returns-6
-returns-6 c = close-turn (c .before .before .before .before .before .before .before .before .pre .1) (c .before .before .before .before .before .before .if1 .left) (c .before .if6 .taken ∙ sym (ap closing (object-kind _ (c .before .before .before .if2 .left)))) (c .turn-to6 .ensures)
-
-turn-to-requires-7 : tie.Need-turn-to-requires-7
-turn-to-requires-7 c κs = search needs
-
-returns-7 : tie.Need-returns-7
-returns-7 c = wrong-turn (c .before .before .before .before .before .before .before .before .pre .1) (c .before .before .before .before .before .before .if1 .left) (c .before .before .if5 .left) (λ e. c .before .if6 .left (e ∙ ap closing (object-kind _ (c .before .before .before .if2 .left)))) (c .turn-to7 .ensures)
+returns-4 c = wrong-turn (c .before .before .before .before .before .before .before .before .pre) (c .before .before .before .before .before .before .if1 .left) (c .before .before .before .if2 .left) (λ e. c .before .if3 .left (e ∙ sym (c .before .before .closing .ensures))) (c .turn-to4 .ensures)
 
 pub separator-spec : {M : Type 1} → statement M
 separator-spec =
@@ -81,21 +59,14 @@ separator-spec =
     returns
     shared-slice-read-b
     sub-inner
-    element-copy-out-if2
+    element-copy-out-kind
     add-turn-to
+    item-due-requires
     turn-to-requires-2
     returns-2
+    closing-requires
     add-turn-to-2
     turn-to-requires-3
     returns-3
     turn-to-requires-4
-    returns-4
-    add-name-end
-    name-end-requires
-    turn-to-requires-5
-    returns-5
-    add-turn-to-3
-    turn-to-requires-6
-    returns-6
-    turn-to-requires-7
-    returns-7)
+    returns-4)
