@@ -1,7 +1,10 @@
-//! What the program `samples` (`crates/samples`) has to print.
+//! What the program `samples` (`crates/samples`) has to print, and in `picklist` what the program
+//! `picklist_cases` has to.
 //!
 //! The cases stand here a second time, in the same order, and every number comes from the
 //! independent implementation in `oracle`. Where the two lists of cases differ, so do the outputs.
+
+pub mod picklist;
 
 use oracle::{find_value, list, sort_block, Answer, Value, Words, BLOCK};
 
