@@ -26,23 +26,40 @@ const LINES: &str = r#"{
 }
 "#;
 
-/// The output so far, and how many cases it has.
+/// A case: its name and the input.
+pub struct Case {
+    pub name: String,
+    pub input: String,
+}
+
+/// The cases so far.
 #[derive(Default)]
-struct Output {
-    text: String,
-    cases: usize,
+struct Cases(Vec<Case>);
+
+/// All cases, in order.
+pub fn cases() -> Vec<Case> {
+    let mut cases = Cases::default();
+    cases.taken();
+    cases.splits();
+    cases.refused();
+    cases.limits();
+    cases.input_bytes();
+    cases.longest();
+    cases.0
 }
 
 /// The whole output.
 pub fn output() -> String {
-    let mut output = Output::default();
-    output.taken();
-    output.splits();
-    output.refused();
-    output.limits();
-    output.input_bytes();
-    output.longest();
-    format!("{}{} cases\n", output.text, output.cases)
+    let cases = cases();
+    let blocks: String = cases.iter().map(block).collect();
+    format!("{blocks}{} cases\n", cases.len())
+}
+
+/// The block of a case: its name, the text, the size of the text, and that nothing beyond it in the
+/// buffer is changed.
+fn block(Case { name, input }: &Case) -> String {
+    let text = String::from_utf8(picklist(input.as_bytes())).expect("the text is ASCII");
+    format!("{name}:\n{text}({} bytes, 0 changed beyond)\n", text.len())
 }
 
 /// A limit and one more.
@@ -60,59 +77,55 @@ fn elements(count: usize) -> String {
     format!("[{}]", vec!["0"; count].join(","))
 }
 
-impl Output {
-    /// The block of a case: its name, the text, the size of the text, and that nothing beyond it in
-    /// the buffer is changed.
-    fn run(&mut self, name: &str, input: &str) {
-        let text = String::from_utf8(picklist(input.as_bytes())).expect("the text is ASCII");
-        self.text += &format!("{name}:\n{text}({} bytes, 0 changed beyond)\n", text.len());
-        self.cases += 1;
+impl Cases {
+    fn add(&mut self, name: &str, input: &str) {
+        self.0.push(Case { name: name.to_string(), input: input.to_string() });
     }
 
     /// Short inputs that are taken.
     fn taken(&mut self) {
-        self.run("the example of document 01", "$..lot\n{\"a\":{\"lot\":1},\"lot\":[2]}");
-        self.run("a grower with two lots in one blend", &format!("$..grower.lot\n{BLEND}"));
-        self.run("no node", "$.lot\n{\"lots\":1}");
+        self.add("the example of document 01", "$..lot\n{\"a\":{\"lot\":1},\"lot\":[2]}");
+        self.add("a grower with two lots in one blend", &format!("$..grower.lot\n{BLEND}"));
+        self.add("no node", "$.lot\n{\"lots\":1}");
     }
 
     /// Where the query ends and the record begins.
     fn splits(&mut self) {
-        self.run("no input", "");
-        self.run("a line feed alone", "\n");
-        self.run("no line feed", "$.lot");
-        self.run("no query", "\n7");
-        self.run("no record", "$.lot\n");
-        self.run("line feeds in the record", &format!("$..lot\n{LINES}"));
-        self.run("a line feed before the record", "$\n\n7");
-        self.run("a carriage return behind the query", "$\r\n7");
+        self.add("no input", "");
+        self.add("a line feed alone", "\n");
+        self.add("no line feed", "$.lot");
+        self.add("no query", "\n7");
+        self.add("no record", "$.lot\n");
+        self.add("line feeds in the record", &format!("$..lot\n{LINES}"));
+        self.add("a line feed before the record", "$\n\n7");
+        self.add("a carriage return behind the query", "$\r\n7");
     }
 
     /// Short inputs that are refused.
     fn refused(&mut self) {
-        self.run("a position in the query", "$[0]\n[7]");
-        self.run("a query and a record that are both refused", "$[0]\n[1,]");
-        self.run("a comma before a closing bracket", "$\n[1,]");
-        self.run("a torn record", "$..lot\n{\"a\":{\"lot\":1},\"lot\":[2");
-        self.run("a byte order mark", "$\n\u{FEFF}7");
+        self.add("a position in the query", "$[0]\n[7]");
+        self.add("a query and a record that are both refused", "$[0]\n[1,]");
+        self.add("a comma before a closing bracket", "$\n[1,]");
+        self.add("a torn record", "$..lot\n{\"a\":{\"lot\":1},\"lot\":[2");
+        self.add("a byte order mark", "$\n\u{FEFF}7");
     }
 
     /// The limits of queries, records and the list, both sides.
     fn limits(&mut self) {
         for bytes in both_sides(MAX_QUERY) {
             let query = padded("$", " ", bytes - 2, ".a");
-            self.run(&format!("a query of {bytes} bytes"), &format!("{query}\n{{\"a\":1}}"));
+            self.add(&format!("a query of {bytes} bytes"), &format!("{query}\n{{\"a\":1}}"));
         }
         for steps in both_sides(MAX_STEPS) {
             let query = format!("${}", ".*".repeat(steps));
-            self.run(&format!("{steps} steps"), &format!("{query}\n{}", nested(16, "7")));
+            self.add(&format!("{steps} steps"), &format!("{query}\n{}", nested(16, "7")));
         }
         for levels in both_sides(MAX_LEVELS) {
             let record = nested(levels - 1, r#"{"a":7}"#);
-            self.run(&format!("{levels} levels"), &format!("$..a\n{record}"));
+            self.add(&format!("{levels} levels"), &format!("$..a\n{record}"));
         }
         for nodes in both_sides(PICKLIST_PAIRS) {
-            self.run(&format!("{nodes} nodes"), &format!("$.*\n{}", elements(nodes)));
+            self.add(&format!("{nodes} nodes"), &format!("$.*\n{}", elements(nodes)));
         }
     }
 
@@ -125,7 +138,7 @@ impl Output {
         ] {
             for bytes in both_sides(MAX_INPUT) {
                 let input = padded(head, fill, bytes - tail.len(), tail);
-                self.run(&format!("{bytes} bytes, {name}"), &input);
+                self.add(&format!("{bytes} bytes, {name}"), &input);
             }
         }
     }
@@ -134,6 +147,6 @@ impl Output {
     fn longest(&mut self) {
         let nodes = elements(PICKLIST_PAIRS);
         let input = padded("$.*\n[", " ", MAX_INPUT - nodes.len() + 1, &nodes[1..]);
-        self.run(&format!("{PICKLIST_PAIRS} nodes at the end of {MAX_INPUT} bytes"), &input);
+        self.add(&format!("{PICKLIST_PAIRS} nodes at the end of {MAX_INPUT} bytes"), &input);
     }
 }
