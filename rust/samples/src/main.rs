@@ -4,8 +4,11 @@
 use std::path::{Path, PathBuf};
 use std::{env, fs, process::ExitCode};
 
+/// What makes an output.
+type Maker = fn() -> String;
+
 /// The files of the repository, and what each has to hold.
-const FILES: [(&str, fn() -> String); 2] =
+const FILES: [(&str, Maker); 2] =
     [(samples::OUTPUT, samples::output), (samples::picklist::OUTPUT, samples::picklist::output)];
 
 /// A file of the repository.
