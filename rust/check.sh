@@ -1,6 +1,7 @@
 #!/usr/bin/env bash
-# Everything outside Rattle: makes the static library anew, then runs the tests of the Rust side and
-# of the example in C against it. A tool that is missing, or a library that was not made, fails.
+# Everything outside Rattle: makes the static library anew and the program picklist, then runs the
+# tests of the Rust side and of the example in C against them. A tool that is missing, or a library
+# or a program that was not made, fails.
 set -euo pipefail
 cd "$(dirname "$0")/.."
 
@@ -12,8 +13,10 @@ done
 unset WOODCROCK_LIBRARY
 rm -f target/staticlib/libwoodcrock_c.a
 rt staticlib woodcrock_c
+rt check picklist
 
 cd rust
 cargo test --locked --offline --workspace
 # Random cases beyond those of the tests, from a seed of their own.
 cargo run --locked --offline --release --package differential -- --seed 2 --cases 200000
+cargo run --locked --offline --release --package differential -- --seed 2 --picklist ../target/bin/picklist

@@ -1,10 +1,11 @@
-// The value finder and the block sorter.
+// The value finder, the value reader and the block sorter.
 use crate::show::count;
 use crate::show::print;
 use crate::show::print_next;
 use crate::show::print_number;
 use crate::text::padded;
 use woodcrock::find_value;
+use woodcrock::read_value;
 use woodcrock::sort_block;
 ghost use Prim.Native.Nat.{_≤_};
 
@@ -30,16 +31,31 @@ const OUTSIDE: Facts = Facts {
 };
 
 // Finds the value at an offset, and prints the three answers.
-fn run_finder(cases: &mut u32, record: &[u8], offset: usize) {
+fn show_found(record: &[u8], offset: usize) {
     let found = find_value(record, offset);
+    print(b": finder");
+    print_next(found.ground as u64);
+    print_next(found.place as u64);
+    print_next(found.end as u64);
+}
+
+// Reads the value at an offset, and prints it.
+fn show_read(record: &[u8], offset: usize) {
+    let value = read_value(record, offset);
+    print(b"; reader `");
+    print(value);
+    print(b"`");
+}
+
+// Finds and reads the value at an offset.
+fn run_finder(cases: &mut u32, record: &[u8], offset: usize) {
     print(b"the value at ");
     print_number(offset as u64);
     print(b" of `");
     print(record);
-    print(b"`: finder");
-    print_next(found.ground as u64);
-    print_next(found.place as u64);
-    print_next(found.end as u64);
+    print(b"`");
+    show_found(record, offset);
+    show_read(record, offset);
     print(b"\n");
     count(cases);
 }
@@ -53,7 +69,7 @@ fn run_offsets(cases: &mut u32, record: &[u8]) {
     run_finder(cases, record, 99);
 }
 
-// The value finder on a record that is taken, and on one that is refused.
+// The value finder and the value reader on a record that is taken, and on one that is refused.
 pub fn run_finders(cases: &mut u32) {
     run_offsets(cases, br#" {"a":[1,"]"]} "#);
     run_finder(cases, b"[1,]", 1);

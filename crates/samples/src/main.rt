@@ -1,5 +1,5 @@
-// Runs the sample rows of document 01 and its limits, both sides, through both listers, and a few cases through the value finder
-// and the block sorter: a line for each case, and the number of cases at the end.
+// Runs the sample rows of document 01 and its limits, both sides, through both listers, and a few cases through the value finder,
+// the value reader and the block sorter: a line for each case, and the number of cases at the end.
 mod calls;
 mod edges;
 mod limits;

@@ -3,23 +3,25 @@
 //! `differential [--seed N] [--cases N] [--seconds N] [--stack BYTES]` runs everything once with so
 //! many random cases, and goes on with further seeds until the seconds are over.
 //! `differential --measure-stack` prints the smallest stack on which each call does at 512 levels.
-//! `differential --picklist PROGRAM [--seed N] [--cases N]` compares a program `picklist`.
+//! `differential --picklist PROGRAM [--seed N] [--cases N]` compares a program `picklist`, each input
+//! in a process of its own, and prints how many inputs there were.
 
 use differential::{
     blocks, deep, long, picklist, random, samples, short, Comparison, DeepCall, Linked, Mismatch,
     DEEP_CALLS, SMALL_STACK,
 };
-use std::path::PathBuf;
+use std::path::{Path, PathBuf};
 use std::process::{Command, ExitCode, Stdio};
 use std::time::{Duration, Instant};
 use std::{env, str::FromStr};
 
-/// Random cases of one run, if the command line does not say.
+/// Random cases of one run, if the command line does not say: for the calls, and for a program.
 const CASES: u64 = 100_000;
+const PROGRAM_CASES: u64 = 5_000;
 
 struct Options {
     seed: u64,
-    cases: u64,
+    cases: Option<u64>,
     time: Duration,
     stack: usize,
     measure: bool,
@@ -31,7 +33,7 @@ struct Options {
 fn options() -> Option<Options> {
     let mut options = Options {
         seed: 1,
-        cases: CASES,
+        cases: None,
         time: Duration::ZERO,
         stack: SMALL_STACK,
         measure: false,
@@ -42,7 +44,7 @@ fn options() -> Option<Options> {
     while let Some(argument) = arguments.next() {
         match argument.as_str() {
             "--seed" => options.seed = number(arguments.next())?,
-            "--cases" => options.cases = number(arguments.next())?,
+            "--cases" => options.cases = Some(number(arguments.next())?),
             "--seconds" => options.time = Duration::from_secs(number(arguments.next())?),
             "--stack" => options.stack = number(arguments.next())?,
             "--measure-stack" => options.measure = true,
@@ -64,6 +66,7 @@ fn number<T: FromStr>(argument: Option<String>) -> Option<T> {
 /// Everything once, then random cases and blocks from further seeds until the time is over.
 fn run(options: &Options) -> Result<(), Mismatch> {
     let began = Instant::now();
+    let cases = options.cases.unwrap_or(CASES);
     let mut comparison = Comparison::new(&Linked);
     for (_, call) in DEEP_CALLS {
         deep(&Linked, call, options.stack)?;
@@ -72,13 +75,20 @@ fn run(options: &Options) -> Result<(), Mismatch> {
     short(&mut comparison)?;
     long(&mut comparison)?;
     for seed in options.seed.. {
-        random(&mut comparison, seed, options.cases)?;
-        blocks(&mut comparison, seed, options.cases)?;
+        random(&mut comparison, seed, cases)?;
+        blocks(&mut comparison, seed, cases)?;
         println!("seed {seed}: all equal so far\n{}", comparison.counts);
         if began.elapsed() >= options.time {
             break;
         }
     }
+    Ok(())
+}
+
+/// The program on its cases, and on random ones.
+fn run_program(program: &Path, options: &Options) -> Result<(), Mismatch> {
+    let inputs = picklist(program, options.seed, options.cases.unwrap_or(PROGRAM_CASES))?;
+    println!("{}: all equal\n{inputs}", program.display());
     Ok(())
 }
 
@@ -119,7 +129,7 @@ fn main() -> ExitCode {
     };
     let result = match (options.only, &options.program) {
         (Some(call), _) => deep(&Linked, call, options.stack),
-        (_, Some(program)) => picklist(program, options.seed, options.cases),
+        (_, Some(program)) => run_program(program, &options),
         _ if options.measure => {
             measure();
             Ok(())

@@ -1,9 +1,12 @@
-//! What the program `samples` (`crates/samples`) has to print.
+//! What the program `samples` (`crates/samples`) has to print, and in `picklist` what the program
+//! `picklist_cases` has to.
 //!
 //! The cases stand here a second time, in the same order, and every number comes from the
 //! independent implementation in `oracle`. Where the two lists of cases differ, so do the outputs.
 
-use oracle::{find_value, list, sort_block, Answer, Value, Words, BLOCK};
+pub mod picklist;
+
+use oracle::{find_value, list, read_value, sort_block, Answer, Value, Words, BLOCK};
 
 /// Where the output stands in the repository.
 pub const OUTPUT: &str = "crates/samples/stdout";
@@ -175,7 +178,7 @@ impl Output {
         }
     }
 
-    /// The value finder.
+    /// The value finder and the value reader.
     fn finders(&mut self) {
         let taken = r#" {"a":[1,"]"]} "#;
         for (record, offset) in
@@ -183,7 +186,9 @@ impl Output {
         {
             let Value { ground, place, end } = find_value(record.as_bytes(), offset);
             let three = spaced([u64::from(ground), place as u64, end as u64]);
-            self.line(&format!("the value at {offset} of `{record}`"), &format!("finder{three}"));
+            let read = String::from_utf8_lossy(read_value(record.as_bytes(), offset));
+            let name = format!("the value at {offset} of `{record}`");
+            self.line(&name, &format!("finder{three}; reader `{read}`"));
         }
     }
 

@@ -1,50 +1,58 @@
-//! Makes what the program `samples` has to print: `samples` writes it, `samples --check` compares it
-//! with what stands in the repository.
+//! Makes what the programs `samples` and `picklist_cases` have to print: `samples` writes it,
+//! `samples --check` compares it with what stands in the repository.
 
-use samples::{output, OUTPUT};
 use std::path::{Path, PathBuf};
 use std::{env, fs, process::ExitCode};
 
-/// The file of the repository.
-fn file() -> PathBuf {
-    Path::new(env!("CARGO_MANIFEST_DIR")).join("../..").join(OUTPUT)
+/// What makes an output.
+type Maker = fn() -> String;
+
+/// The files of the repository, and what each has to hold.
+const FILES: [(&str, Maker); 2] =
+    [(samples::OUTPUT, samples::output), (samples::picklist::OUTPUT, samples::picklist::output)];
+
+/// A file of the repository.
+fn place(file: &str) -> PathBuf {
+    Path::new(env!("CARGO_MANIFEST_DIR")).join("../..").join(file)
 }
 
-fn write() -> Result<(), String> {
-    fs::write(file(), output()).map_err(|fault| format!("{OUTPUT}: {fault}"))
+fn write(file: &str, output: String) -> Result<(), String> {
+    fs::write(place(file), output).map_err(|fault| format!("{file}: {fault}"))
 }
 
-fn check() -> Result<(), String> {
-    let standing = fs::read(file()).map_err(|fault| format!("{OUTPUT}: {fault}"))?;
-    match standing == output().as_bytes() {
+fn check(file: &str, output: String) -> Result<(), String> {
+    let standing = fs::read(place(file)).map_err(|fault| format!("{file}: {fault}"))?;
+    match standing == output.as_bytes() {
         true => Ok(()),
-        false => Err(format!("{OUTPUT}: not what the independent implementation gives")),
+        false => Err(format!("{file}: not what the independent implementation gives")),
     }
 }
 
 fn main() -> ExitCode {
     let arguments: Vec<String> = env::args().skip(1).collect();
-    let done = match arguments.iter().map(String::as_str).collect::<Vec<_>>()[..] {
-        [] => write(),
-        ["--check"] => check(),
+    let job = match arguments.iter().map(String::as_str).collect::<Vec<_>>()[..] {
+        [] => write,
+        ["--check"] => check,
         _ => {
             eprintln!("usage: samples [--check]");
             return ExitCode::from(2);
         }
     };
-    match done {
-        Ok(()) => ExitCode::SUCCESS,
-        Err(fault) => {
+    for (file, output) in FILES {
+        if let Err(fault) = job(file, output()) {
             eprintln!("{fault}");
-            ExitCode::FAILURE
+            return ExitCode::FAILURE;
         }
     }
+    ExitCode::SUCCESS
 }
 
 #[cfg(test)]
 mod tests {
     #[test]
-    fn the_file_of_the_repository_is_what_the_independent_implementation_gives() {
-        assert_eq!(super::check(), Ok(()));
+    fn the_files_of_the_repository_are_what_the_independent_implementation_gives() {
+        for (file, output) in super::FILES {
+            assert_eq!(super::check(file, output()), Ok(()));
+        }
     }
 }

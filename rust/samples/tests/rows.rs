@@ -40,6 +40,16 @@ const LIMITS: &[(&str, &str, &str)] = &[
     ("a backslash at 63, `$.*`", "0 0 2 1", "1 68 69 70 7777 7777 7777 7777"),
 ];
 
+/// Offset and record, what the value finder answers, and the part that the value reader lends.
+const VALUES: &[(usize, &str, &str, &str)] = &[
+    (1, r#" {"a":[1,"]"]} "#, "0 0 14", r#"{"a":[1,"]"]}"#),
+    (6, r#" {"a":[1,"]"]} "#, "0 0 13", r#"[1,"]"]"#),
+    (2, r#" {"a":[1,"]"]} "#, "8 2 0", ""),
+    (12, r#" {"a":[1,"]"]} "#, "8 12 0", ""),
+    (99, r#" {"a":[1,"]"]} "#, "8 99 0", ""),
+    (1, "[1,]", "5 3 0", ""),
+];
+
 /// The line of a case; both walks have the same answers.
 fn line((name, answers, left): &(&str, &str, &str)) -> String {
     format!("{name}: plain {answers} list {left}; jumping {answers} list {left}")
@@ -56,6 +66,16 @@ fn the_output_has_the_limits() {
     let output = output();
     for row in LIMITS {
         assert!(output.lines().any(|standing| standing == line(row)), "{row:?}");
+    }
+}
+
+#[test]
+fn the_output_has_the_values() {
+    let output = output();
+    for (offset, record, answers, value) in VALUES {
+        let name = format!("the value at {offset} of `{record}`");
+        let line = format!("{name}: finder {answers}; reader `{value}`");
+        assert!(output.lines().any(|standing| standing == line), "{line}");
     }
 }
 

@@ -1,0 +1,49 @@
+// Runs a case and prints what comes of it.
+use report::OUTPUT_SIZE;
+use report::print_picklist;
+
+// What the buffer holds before a call, at each place.
+const OLD: u8 = b'.';
+
+// Prints bytes as they are.
+pub fn print(bytes: &[u8]) {
+    io::write_all(libc::STDOUT_FILENO, bytes);
+}
+
+// Prints a number in decimal.
+pub fn print_number(number: u64) {
+    io::print_decimal(libc::STDOUT_FILENO, number);
+}
+
+// How many bytes from `from` on are no longer what the buffer held.
+fn changed(out: &[u8; OUTPUT_SIZE], from: usize) -> u64 {
+    let mut count: u64 = 0;
+    let mut i = from;
+    while i < OUTPUT_SIZE {
+        if out[i] != OLD {
+            count = std::num::wrapping_add_u64(count, 1);
+        }
+        i += 1;
+    }
+    count
+}
+
+// Prints the size of a text, and how many bytes of the buffer beyond it were changed.
+fn print_rest(out: &[u8; OUTPUT_SIZE], size: usize) {
+    print(b"(");
+    print_number(size as u64);
+    print(b" bytes, ");
+    print_number(changed(out, size));
+    print(b" changed beyond)\n");
+}
+
+// Prints the name of a case and what comes of its input.
+pub fn run(cases: &mut u32, name: &[u8], input: &[u8]) {
+    print(name);
+    print(b":\n");
+    let mut out = [OLD; OUTPUT_SIZE];
+    let size = print_picklist(input, &mut out);
+    print(&out[..size]);
+    print_rest(&out, size);
+    *cases = std::num::wrapping_add_u32(*cases, 1);
+}
