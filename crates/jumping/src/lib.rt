@@ -120,17 +120,31 @@ fn past(
     if next >= record.len() {
         return lost(a, at);
     }
-    let mut b = a;
     if record[next] == COMMA {
-        b.at = next + 1;
-        b.item = true;
-        return b;
+        let after = next + 1;
+        return Standing {
+            at: after,
+            item: true,
+            depth: a.depth,
+            frames: a.frames,
+            marks: a.marks,
+            used: a.used,
+            peak: a.peak,
+            stop: a.stop,
+        };
     }
     let top = a.depth - 1;
     let around = pop_frame(levels, held, a.frames, top, a.marks);
-    b.depth = top;
-    b.frames = around.frames;
-    b.marks = around.marks;
+    let b = Standing {
+        at,
+        item: false,
+        depth: top,
+        frames: around.frames,
+        marks: around.marks,
+        used: a.used,
+        peak: a.peak,
+        stop: a.stop,
+    };
     let wait = waits[top];
     pass(list, wait, next + 1, b)
 }

@@ -10,7 +10,7 @@ pub const MAX_DEPTH: usize = 512;
 
 // Where the walk stands: the place; whether an item is ahead there, or else a value has been passed; how many containers are open; the
 // frames on the pile and the marks of the innermost container; the pairs used, the most frames, and one more than the first byte of the
-// first node left over, or 0.
+// first node left over, or 0. A new one is written out field by field: a copy would also move the unused bytes behind the last field.
 pub struct Standing {
     pub at: usize,
     pub depth: usize,

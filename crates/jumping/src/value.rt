@@ -28,11 +28,16 @@ pub fn lost(a: Standing, at: usize) -> Standing
     requires { ⌜ at ≤ maxBytes ⌝ }
     ensures { λ r. ⌜ Lost at a r ⌝ }
 {
-    let mut r = a;
-    r.at = at + 1;
-    r.item = false;
-    r.depth = 0;
-    r
+    Standing {
+        at: at + 1,
+        item: false,
+        depth: 0,
+        frames: a.frames,
+        marks: a.marks,
+        used: a.used,
+        peak: a.peak,
+        stop: a.stop,
+    }
 }
 
 // Past a value that ends at `end`, which goes into the pair that waits for it.
@@ -41,10 +46,16 @@ pub fn pass(list: &mut [u32], wait: usize, end: usize, a: Standing) -> Standing
     ensures { λ r. ⌜ PassedTo (now (list .entry)) (now (list .exit)) wait end a r ⌝ }
 {
     finish(list, wait, end);
-    let mut r = a;
-    r.at = end;
-    r.item = false;
-    r
+    Standing {
+        at: end,
+        item: false,
+        depth: a.depth,
+        frames: a.frames,
+        marks: a.marks,
+        used: a.used,
+        peak: a.peak,
+        stop: a.stop,
+    }
 }
 
 // Whether a container with these marks is passed without a look inside: it has none, or the list was full.
@@ -82,13 +93,18 @@ fn enter(
     push_frame(levels, held, a.frames, depth, a.marks);
     waits[depth] = wait;
     brackets[depth] = bracket;
-    let mut r = a;
-    r.at = v.at + 1;
-    r.item = true;
-    r.depth = depth + 1;
-    r.frames = frames;
-    r.marks = v.marks;
-    r
+    let first = v.at + 1;
+    let inner = depth + 1;
+    Standing {
+        at: first,
+        item: true,
+        depth: inner,
+        frames,
+        marks: v.marks,
+        used: a.used,
+        peak: a.peak,
+        stop: a.stop,
+    }
 }
 
 // Passes the container ahead, whose pair is begun, or enters it where it has items and is not dead. Its frame counts in either case.
@@ -122,8 +138,17 @@ fn container(
         return lost(a, at);
     }
     let frames = framed(a.marks, marks, around);
-    let mut b = a;
-    b.peak = raise(a.peak, frames, a.stop);
+    let peak = raise(a.peak, frames, a.stop);
+    let b = Standing {
+        at: a.at,
+        item: a.item,
+        depth: a.depth,
+        frames: around,
+        marks: a.marks,
+        used: a.used,
+        peak,
+        stop: a.stop,
+    };
     if is_dead(marks, a.stop) {
         let end = leave(classes, record, at + 1);
         return pass(list, wait, end, b);
@@ -165,9 +190,16 @@ pub fn value(
     }
     let begun = begin(list, v.picked, a.used, a.stop, at);
     let wait = begun.wait;
-    let mut b = a;
-    b.used = begun.used;
-    b.stop = begun.stop;
+    let b = Standing {
+        at: a.at,
+        item: a.item,
+        depth: a.depth,
+        frames: a.frames,
+        marks: a.marks,
+        used: begun.used,
+        peak: a.peak,
+        stop: begun.stop,
+    };
     if class(classes, record[at]) != OPENING {
         let end = scalar_end(classes, record, at);
         return pass(list, wait, end, b);

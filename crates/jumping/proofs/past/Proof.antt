@@ -29,8 +29,8 @@ returns c =
 shared-slice-read-if2 : tie.Need-shared-slice-read-if2
 shared-slice-read-if2 c = search needs
 
-add-b : tie.Need-add-b
-add-b c = search needs
+add-after : tie.Need-add-after
+add-after c = search needs
 
 returns-2 : tie.Need-returns-2
 returns-2 c =
@@ -107,7 +107,7 @@ past-spec =
     lost-requires
     returns
     shared-slice-read-if2
-    add-b
+    add-after
     returns-2
     sub-top
     pop-frame-requires

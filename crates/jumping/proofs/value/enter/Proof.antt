@@ -17,11 +17,11 @@ element-write-waits c = search needs
 element-write-brackets : tie.Need-element-write-brackets
 element-write-brackets c = search needs
 
-add-r : tie.Need-add-r
-add-r c = search needs
+add-first : tie.Need-add-first
+add-first c = search needs
 
-add-r-2 : tie.Need-add-r-2
-add-r-2 c = search needs
+add-inner : tie.Need-add-inner
+add-inner c = search needs
 
 returns : tie.Need-returns
 returns c =
@@ -36,6 +36,6 @@ enter-spec =
     mul-waits
     element-write-waits
     element-write-brackets
-    add-r
-    add-r-2
+    add-first
+    add-inner
     returns)
