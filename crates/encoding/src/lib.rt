@@ -68,8 +68,8 @@ fn row_of(rows: &[u8; 45], b: u8) -> usize
     while r < ROW_COUNT {
         let row = r;
         r += 1;
-        if rows[row * ROW_SIZE + LOW] <= b {
-            if b <= rows[row * ROW_SIZE + HIGH] {
+        if b <= rows[row * ROW_SIZE + HIGH] {
+            if rows[row * ROW_SIZE + LOW] <= b {
                 return row;
             }
         }

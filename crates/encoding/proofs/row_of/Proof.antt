@@ -56,7 +56,7 @@ loop-again c =
     let below = at .loop-test .taken in (
       omega arith,
       omega arith,
-      from-over (at .before .before .args .b) row below (at .before .loop .inv .2) (omega (arith, high-at (at .before .before .pre) row below)),
+      from-under (at .before .before .args .b) row below (at .before .loop .inv .2) (omega (arith, low-at (at .before .before .pre) row below)),
     )
 
 loop-less-2 : tie.Need-loop-less-2 Inv-loop μ-loop
@@ -69,7 +69,7 @@ loop-again-2 c =
     let below = at .loop-test .taken in (
       omega arith,
       omega arith,
-      from-under (at .before .before .args .b) row below (at .before .loop .inv .2) (omega (arith, low-at (at .before .before .pre) row below)),
+      from-over (at .before .before .args .b) row below (at .before .loop .inv .2) (omega (arith, high-at (at .before .before .pre) row below)),
     )
 
 returns-2 : tie.Need-returns-2 Inv-loop μ-loop
