@@ -183,14 +183,23 @@ fn blanks(s: &[u8], at: usize) -> usize
     i
 }
 
-// The end of the blanks from `at` on.
+// The end of the blanks from `at` on: at once where none stands there, or one space alone.
 pub fn blank_run(s: &[u8], at: usize) -> usize
     requires { ⌜ at ≤ length (now s) ⌝ }
     ensures { λ r. ⌜ Run blank (now (s .entry)) at r ⌝ }
 {
-    if at < s.len() {
-        if s[at] > SPACE {
-            return at;
+    if at >= s.len() {
+        return at;
+    }
+    if s[at] > SPACE {
+        return at;
+    }
+    let next = at + 1;
+    if next < s.len() {
+        if s[next] > SPACE {
+            if s[at] == SPACE {
+                return next;
+            }
         }
     }
     blanks(s, at)
