@@ -2,20 +2,24 @@
 use mathlib.Core.Path.{_≡_, refl, sym, ap, ap₂, _∙_}
 use mathlib.Core.List.{List, [], _∷_, _++_}
 use mathlib.Core.Bool.{Bool, true, false, not, _&&_, _||_, false≢true}
+use mathlib.Core.Logic.{⊎-elim}
 use Prim.Native.Nat.{ℕ, zero, suc, _+_, _≤_, _<_}
 use native.Mathlib.Omega.{arith}
 use lib.Dec.{T, eqb, leb, le→leb}
 use lib.ListN.{length}
-use borrow.Author.Tests.{not-true}
+use borrow.Author.Tests.{not-true, ne-eqb}
 use Rattle.bits.specs.Truth.{allBelow, all-at}
 use Rattle.encoding.specs.Bytes as B
 use Rattle.encoding.specs.Bytes.{In, putIn, Blank, Blanks, blankByte, putBlanks}
 use Rattle.json.specs.Read.{in-bounds}
 use Rattle.encoding.specs.Class.{classIn, classOf}
+use Rattle.encoding.specs.ClassLaws as Class
 use Rattle.encoding.specs.Utf8 as U
 use Rattle.encoding.specs.Utf8.{Wide, putWide}
 use Rattle.json.specs.Grammar as G
 use Rattle.json.specs.Grammar.{Literal, Minus, Int, Frac, Exp, ExpSign, Escape, escapeByte, Hex, hexByte, Char, Kind, Key, Value, Items, More, putLiteral, putMinus, putInt, putFrac, putExp, putExpSign, putChar, putChars, putString, putKey, putValue, putItems, putMore}
+use Rattle.swar.specs.Kinds.{inner}
+use Rattle.scan.specs.Scans.{isWordByte}
 use Rattle.scan.specs.Shape.{isBlank, endsWord, solid, starts, stopped, wordy, Piece, plain, escaped, putPieces}
 
 of-T : (b : Bool) → T b → b ≡ true
@@ -170,6 +174,29 @@ pub wordy-number : (g : Minus) (n : Int) (f : Frac) (e : Exp) → wordy (putMinu
 unfolding putMinus wordy endsWord classOf
 wordy-number G.unsigned n f e = wordy-int n (putFrac f (putExp e [])) (wordy-frac f (putExp e []) (wordy-exp e))
 wordy-number G.minus n f e = wordy-int n (putFrac f (putExp e [])) (wordy-frac f (putExp e []) (wordy-exp e))
+
+-- a byte that is passed at a glance ends no word
+pub inner-word : (b : ℕ) → inner b ≡ true → isWordByte b ≡ true
+unfolding isWordByte endsWord inner
+inner-word b e = rw (ne-eqb (classOf b) 2 closing, ne-eqb (classOf b) 4 comma, ne-eqb (classOf b) 7 blank)
+  where
+    none : {x : ℕ} → inner x ≡ false → b ≡ x → ⊥
+    none f q = false≢true (sym f ∙ ap inner (sym q) ∙ e)
+
+    closing : classOf b ≡ 2 → ⊥
+    closing h = ⊎-elim (none refl) (none refl) (Class.closing-class b .0 h)
+
+    comma : classOf b ≡ 4 → ⊥
+    comma h = none refl (Class.comma-class b .0 h)
+
+    no-blank : (w : Blank) → b ≡ blankByte w → ⊥
+    no-blank B.space q = none refl q
+    no-blank B.tab q = none refl q
+    no-blank B.feed q = none refl q
+    no-blank B.return q = none refl q
+
+    blank : classOf b ≡ 7 → ⊥
+    blank h = let w = Class.blank-class b .0 h in no-blank (w .0) (w .1)
 
 -- the characters of a string as pieces
 abbrev inert : ℕ → Bool

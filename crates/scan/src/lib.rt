@@ -60,20 +60,23 @@ pub fn string_end(s: &[u8], at: usize) -> usize
     }
 }
 
-// The end of the bytes from `at` on that do not end a literal or a number.
+// The end of the bytes from `at` on that do not end a literal or a number: most of them are passed eight at a time.
 fn word_run(classes: &[u8; 256], s: &[u8], at: usize) -> usize
     requires { ⌜ at ≤ length (now s) ⌝ }
     requires { ⌜ ClassTable (now classes) ⌝ }
     ensures { λ r. ⌜ Run isWordByte (now (s .entry)) at r ⌝ }
 {
     let mut i = at;
-    while i < s.len() {
-        if ends_word(classes, s[i]) {
-            return i;
+    loop {
+        let end = swar::inner_run(s, i);
+        if end >= s.len() {
+            return end;
         }
-        i += 1;
+        if ends_word(classes, s[end]) {
+            return end;
+        }
+        i = end + 1;
     }
-    i
 }
 
 // The place after the scalar at `at`.

@@ -20,6 +20,10 @@ blank b = eqb (classOf b) 7
 unfoldable pub spaceByte : ℕ → Bool
 spaceByte b = eqb b 0x20
 
+-- a byte that ends neither a literal nor a number, as most of theirs are: from 2D on, and no closing bracket
+unfoldable pub inner : ℕ → Bool
+inner b = leb 0x2D b && (not (eqb b 0x5D) && not (eqb b 0x7D))
+
 -- the bytes of a string, strictly or not
 abbrev pub stringKind : Bool → ℕ → Bool
 stringKind true b = plain b

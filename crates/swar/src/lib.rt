@@ -2,7 +2,7 @@
 ghost use Prim.Native.Nat.{_+_, _≤_};
 ghost use mathlib.Core.Path.{_≡_};
 ghost use lib.ListN.{length};
-ghost use Rattle.swar.specs.Kinds.{plain, body, blank, spaceByte, stringKind};
+ghost use Rattle.swar.specs.Kinds.{plain, body, blank, spaceByte, inner, stringKind};
 ghost use Rattle.swar.specs.Run.{Passed, Run};
 ghost use Rattle.swar.specs.Stops.{Stops, FirstByte};
 
@@ -63,6 +63,17 @@ fn plain_stops(x: u64) -> u64
     let other = std::num::wrapping_add_u64(l ^ 0x2222222222222222, 0x7f7f7f7f7f7f7f7f);
     let plain = std::num::wrapping_add_u64(l ^ 0x5c5c5c5c5c5c5c5c, 0x7f7f7f7f7f7f7f7f);
     ((from & other & plain ^ 0xffffffffffffffff) | x) & 0x8080808080808080
+}
+
+// Of eight bytes, those from 2D on that are no closing bracket come back as 0, and the others not.
+fn inner_stops(x: u64) -> u64
+    ensures { λ r. ⌜ Stops inner x r ⌝ }
+{
+    let l = x & 0x7f7f7f7f7f7f7f7f;
+    let from = std::num::wrapping_add_u64(l, 0x5353535353535353);
+    let bracket = (l | 0x2020202020202020) ^ 0x7d7d7d7d7d7d7d7d;
+    let other = std::num::wrapping_add_u64(bracket, 0x7f7f7f7f7f7f7f7f);
+    (((from & other) | x) & 0x8080808080808080) ^ 0x8080808080808080
 }
 
 // Of eight bytes, those of the kind come back as 0, and the others not.
@@ -183,15 +194,40 @@ fn blanks(s: &[u8], at: usize) -> usize
     i
 }
 
-// The end of the blanks from `at` on.
+// The end of the blanks from `at` on: at once where none stands there, or one space alone.
 pub fn blank_run(s: &[u8], at: usize) -> usize
     requires { ⌜ at ≤ length (now s) ⌝ }
     ensures { λ r. ⌜ Run blank (now (s .entry)) at r ⌝ }
 {
-    if at < s.len() {
-        if s[at] > SPACE {
-            return at;
+    if at >= s.len() {
+        return at;
+    }
+    if s[at] > SPACE {
+        return at;
+    }
+    let next = at + 1;
+    if next < s.len() {
+        if s[next] > SPACE {
+            if s[at] == SPACE {
+                return next;
+            }
         }
     }
     blanks(s, at)
+}
+
+// A place from `at` on up to which all bytes are from 2D on and no closing brackets: all such where eight bytes more stand there.
+pub fn inner_run(s: &[u8], at: usize) -> usize
+    requires { ⌜ at ≤ length (now s) ⌝ }
+    ensures { λ r. ⌜ Passed inner (now (s .entry)) at r ⌝ }
+{
+    let mut i = at;
+    while s.len() - i >= 8 {
+        let w = inner_stops(bits::load8(s, i));
+        if w != 0 {
+            return i + zero_bytes(w);
+        }
+        i += 8;
+    }
+    i
 }

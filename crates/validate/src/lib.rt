@@ -4,7 +4,6 @@ ghost use lib.ListN.{length};
 ghost use Rattle.json.specs.Verdict.{textVerdict, recordVerdict};
 ghost use Rattle.validate.specs.Checks.{Answers};
 
-mod blanks;
 mod numbers;
 mod strings;
 mod turns;
@@ -34,7 +33,7 @@ fn check_text(text: &[u8]) -> Checked
     let mut kinds: [u8; 512] = [0; 512];
     let mut depth: usize = 0;
     let mut due = turns::VALUE;
-    let mut i = blanks::blanks_end(text, 0);
+    let mut i = swar::blank_run(text, 0);
     while i < text.len() {
         let turn = turns::take_turn(text, &rows, &mut kinds, i, depth, due);
         let at = turn.at;
@@ -46,7 +45,7 @@ fn check_text(text: &[u8]) -> Checked
         }
         depth = turn.depth;
         due = turn.due;
-        i = blanks::blanks_end(text, at);
+        i = swar::blank_run(text, at);
     }
     if due != turns::AFTER {
         return Checked {

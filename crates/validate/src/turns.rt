@@ -11,7 +11,6 @@ ghost use Rattle.validate.specs.Nesting.{kindOf};
 ghost use Rattle.validate.specs.Scalars.{Bare, Scalar};
 ghost use Rattle.validate.specs.Texts.{Texted};
 ghost use Rattle.validate.specs.Turns.{standing, ItemDue, Opens, Ready, Turned, TurnTo};
-use crate::blanks;
 use crate::numbers;
 use crate::strings;
 use crate::words;
@@ -142,7 +141,7 @@ fn open(s: &[u8], kinds: &mut [u8; 512], at: usize, depth: usize, kind: u8) -> T
         };
     }
     kinds[depth] = kind;
-    let next = blanks::blanks_end(s, at + 1);
+    let next = swar::blank_run(s, at + 1);
     if words::byte_at(s, next, closing(kind)) {
         return turn_to(true, next + 1, depth, AFTER);
     }
@@ -178,7 +177,7 @@ fn text(s: &[u8], rows: &[u8; 45], at: usize, depth: usize, due: u8) -> Turn
     if due == VALUE {
         return turn_to(true, end, depth, AFTER);
     }
-    let colon = blanks::blanks_end(s, end);
+    let colon = swar::blank_run(s, end);
     if !words::byte_at(s, colon, b':') {
         return turn_to(false, colon, depth, VALUE);
     }

@@ -1,10 +1,11 @@
--- Every byte passed is one of a word; the run ends at the first that is not, or with the record. Assumes nothing.
+-- Every byte passed is one of a word, eight at a time or alone; the run ends at the first that is not, or with the record. Assumes nothing.
 use Prim.Native.Nat.{_-_}
 use native.Mathlib.Omega.{arith}
 use lib.ListN.{length}
 use Rattle.swar.specs.Run.{Passed}
-use Rattle.swar.specs.Passing.{at-start, one-more, ends-at, ends-all}
+use Rattle.swar.specs.Passing.{at-start, one-more, passed-on, passed-as, ends-at, ends-all}
 use Rattle.scan.specs.Scans.{isWordByte}
+use Rattle.scan.specs.ShapeLaws.{inner-word}
 use Rattle.scan.proofs.Laws.{word-over, word-on}
 use borrow.Author.Needs.{needs}
 use Rattle.scan.proofs.word_run.Statement.{statement}
@@ -19,26 +20,35 @@ abbrev μ-loop : tie.MeasureT-loop
 loop-holds : tie.Need-loop-holds Inv-loop μ-loop
 loop-holds c = at-start (search needs)
 
+inner-run-requires : tie.Need-inner-run-requires Inv-loop μ-loop
+inner-run-requires c κs = c .loop .inv .within
+
+returns : tie.Need-returns Inv-loop μ-loop
+returns c = ends-all (passed-on (c .before .before .loop .inv) (passed-as inner-word (c .before .inner-run .ensures))) (c .if1 .taken)
+
 shared-slice-read-ends-word : tie.Need-shared-slice-read-ends-word Inv-loop μ-loop
 shared-slice-read-ends-word c = search needs
 
 ends-word-requires : tie.Need-ends-word-requires Inv-loop μ-loop
 ends-word-requires c κs = search needs
 
-returns : tie.Need-returns Inv-loop μ-loop
-returns c = ends-at (c .before .before .before .before .loop .inv) (word-over _ _ (c .before .ends-word .ensures) (c .if1 .taken))
+returns-2 : tie.Need-returns-2 Inv-loop μ-loop
+returns-2 c =
+    let at = c .before .before .before in
+    ends-at (passed-on (at .before .before .loop .inv) (passed-as inner-word (at .before .inner-run .ensures)))
+    (word-over _ _ (c .before .ends-word .ensures) (c .if2 .taken))
 
 add-i : tie.Need-add-i Inv-loop μ-loop
 add-i c = search needs
 
 loop-less : tie.Need-loop-less Inv-loop μ-loop
-loop-less c = omega arith
+loop-less c = omega (arith, c .before .before .before .before .inner-run .ensures .forward)
 
 loop-again : tie.Need-loop-again Inv-loop μ-loop
-loop-again c = one-more (c .before .before .before .before .loop .inv) (omega arith) (word-on _ _ (c .before .ends-word .ensures) (c .if1 .left))
-
-returns-2 : tie.Need-returns-2 Inv-loop μ-loop
-returns-2 c = ends-all (c .before .loop .inv) (omega arith)
+loop-again c =
+    let at = c .before .before .before in
+    one-more (passed-on (at .before .before .loop .inv) (passed-as inner-word (at .before .inner-run .ensures))) (at .if1 .left)
+    (word-on _ _ (c .before .ends-word .ensures) (c .if2 .left))
 
 pub word-run-spec : {M : Type 1} → statement M
 word-run-spec =
@@ -47,10 +57,11 @@ word-run-spec =
     Inv-loop
     μ-loop
     loop-holds
+    inner-run-requires
+    returns
     shared-slice-read-ends-word
     ends-word-requires
-    returns
+    returns-2
     add-i
     loop-less
-    loop-again
-    returns-2)
+    loop-again)

@@ -20,11 +20,11 @@ abbrev μ-loop : tie.MeasureT-loop
 rows-requires : tie.Need-rows-requires Inv-loop μ-loop
 rows-requires c κs = search needs
 
-blanks-end-requires : tie.Need-blanks-end-requires Inv-loop μ-loop
-blanks-end-requires c κs = search needs
+blank-run-requires : tie.Need-blank-run-requires Inv-loop μ-loop
+blank-run-requires c κs = search needs
 
 loop-holds : tie.Need-loop-holds Inv-loop μ-loop
-loop-holds c = (c .before .rows .ensures, start-at refl (c .blanks-end .ensures))
+loop-holds c = (c .before .rows .ensures, start-at refl (c .blank-run .ensures))
 
 take-turn-requires : tie.Need-take-turn-requires Inv-loop μ-loop
 take-turn-requires c κs = (c .before .before .before .loop .inv .0, ready (c .before .before .before .loop .inv .1) (c .before .before .loop-test .taken), c .before .before .before .loop .inv .1 .known)
@@ -35,14 +35,14 @@ cast-t14 c = search needs
 returns : tie.Need-returns Inv-loop μ-loop
 returns c = refused-at (c .before .before .before .before .before .before .before .loop .inv .1) (c .before .before .before .take-turn .ensures) (c .before .if1 .taken)
 
-blanks-end-requires-2 : tie.Need-blanks-end-requires-2 Inv-loop μ-loop
-blanks-end-requires-2 c κs = c .before .before .take-turn .ensures .within
+blank-run-requires-2 : tie.Need-blank-run-requires-2 Inv-loop μ-loop
+blank-run-requires-2 c κs = c .before .before .take-turn .ensures .within
 
 loop-less : tie.Need-loop-less Inv-loop μ-loop
-loop-less c = omega (arith, c .before .before .before .take-turn .ensures .forward (c .before .if1 .left), c .blanks-end2 .ensures .passed .forward)
+loop-less c = omega (arith, c .before .before .before .take-turn .ensures .forward (c .before .if1 .left), c .blank-run2 .ensures .passed .forward)
 
 loop-again : tie.Need-loop-again Inv-loop μ-loop
-loop-again c = (c .before .before .before .before .before .before .before .loop .inv .0, next-at (c .before .before .before .before .before .before .before .loop .inv .1) (c .before .before .before .take-turn .ensures) (c .before .if1 .left) (c .blanks-end2 .ensures))
+loop-again c = (c .before .before .before .before .before .before .before .loop .inv .0, next-at (c .before .before .before .before .before .before .before .loop .inv .1) (c .before .before .before .take-turn .ensures) (c .before .if1 .left) (c .blank-run2 .ensures))
 
 returns-2 : tie.Need-returns-2 Inv-loop μ-loop
 returns-2 c = end-due (c .before .before .loop .inv .1) (c .before .loop-test .left) (c .if2 .taken)
@@ -60,12 +60,12 @@ check-text-spec =
     Inv-loop
     μ-loop
     rows-requires
-    blanks-end-requires
+    blank-run-requires
     loop-holds
     take-turn-requires
     cast-t14
     returns
-    blanks-end-requires-2
+    blank-run-requires-2
     loop-less
     loop-again
     returns-2

@@ -10,11 +10,11 @@ returns c = open-deep (c .before .before .pre .0) (c .before .before .pre .1) (c
 element-write-kinds : tie.Need-element-write-kinds
 element-write-kinds c = search needs
 
-add-blanks-end : tie.Need-add-blanks-end
-add-blanks-end c = search needs
+add-blank-run : tie.Need-add-blank-run
+add-blank-run c = search needs
 
-blanks-end-requires : tie.Need-blanks-end-requires
-blanks-end-requires c κs = search needs
+blank-run-requires : tie.Need-blank-run-requires
+blank-run-requires c κs = search needs
 
 closing-requires : tie.Need-closing-requires
 closing-requires c κs = search needs
@@ -29,7 +29,7 @@ turn-to-requires : tie.Need-turn-to-requires
 turn-to-requires c κs = search needs
 
 returns-2 : tie.Need-returns-2
-returns-2 c = open-empty (c .before .before .before .before .before .before .before .pre .0) (c .before .before .before .before .before .before .before .pre .1) (c .before .before .before .before .before .if1 .left) (c .before .before .before .before .blanks-end .ensures) (c .before .before .before .closing .ensures) (c .before .before .byte-at .ensures) (c .before .if2 .taken) (c .turn-to .ensures)
+returns-2 c = open-empty (c .before .before .before .before .before .before .before .pre .0) (c .before .before .before .before .before .before .before .pre .1) (c .before .before .before .before .before .if1 .left) (c .before .before .before .before .blank-run .ensures) (c .before .before .before .closing .ensures) (c .before .before .byte-at .ensures) (c .before .if2 .taken) (c .turn-to .ensures)
 
 add-turn-to-2 : tie.Need-add-turn-to-2
 add-turn-to-2 c = search needs
@@ -41,7 +41,7 @@ turn-to-requires-2 : tie.Need-turn-to-requires-2
 turn-to-requires-2 c κs = search needs
 
 returns-3 : tie.Need-returns-3
-returns-3 c = open-item (c .before .before .before .before .before .before .before .before .pre .0) (c .before .before .before .before .before .before .before .before .pre .1) (c .before .before .before .before .before .before .if1 .left) (c .before .before .before .before .before .blanks-end .ensures) (c .before .before .before .before .closing .ensures) (c .before .before .before .byte-at .ensures) (c .before .before .if2 .left) (c .before .item-due .ensures) (c .turn-to2 .ensures)
+returns-3 c = open-item (c .before .before .before .before .before .before .before .before .pre .0) (c .before .before .before .before .before .before .before .before .pre .1) (c .before .before .before .before .before .before .if1 .left) (c .before .before .before .before .before .blank-run .ensures) (c .before .before .before .before .closing .ensures) (c .before .before .before .byte-at .ensures) (c .before .before .if2 .left) (c .before .item-due .ensures) (c .turn-to2 .ensures)
 
 pub open-spec : {M : Type 1} → statement M
 open-spec =
@@ -49,8 +49,8 @@ open-spec =
     (tie.spec
     returns
     element-write-kinds
-    add-blanks-end
-    blanks-end-requires
+    add-blank-run
+    blank-run-requires
     closing-requires
     byte-at-requires
     add-turn-to

@@ -24,8 +24,8 @@ turn-to-requires-2 c κs = search needs
 returns-2 : tie.Need-returns-2
 returns-2 c = text-value (c .before .before .before .before .before .before .pre .1) (c .before .before .before .before .before .before .pre .2) (c .before .before .before .before .before .before .pre .3) (c .before .before .before .before .string-end .ensures) (not-false _ (c .before .before .if1 .left)) (c .before .if2 .taken) (c .turn-to2 .ensures)
 
-blanks-end-requires : tie.Need-blanks-end-requires
-blanks-end-requires c κs = c .before .before .before .string-end .ensures true .within
+blank-run-requires : tie.Need-blank-run-requires
+blank-run-requires c κs = c .before .before .before .string-end .ensures true .within
 
 byte-at-requires : tie.Need-byte-at-requires
 byte-at-requires c κs = search needs
@@ -34,7 +34,7 @@ turn-to-requires-3 : tie.Need-turn-to-requires-3
 turn-to-requires-3 c κs = search needs
 
 returns-3 : tie.Need-returns-3
-returns-3 c = text-bare (c .before .before .before .before .before .before .before .before .before .pre .1) (c .before .before .before .before .before .before .before .before .before .pre .2) (c .before .before .before .before .before .before .before .before .before .pre .3) (c .before .before .before .before .before .before .before .string-end .ensures) (not-false _ (c .before .before .before .before .before .if1 .left)) (c .before .before .before .before .if2 .left) (c .before .before .before .blanks-end .ensures) (c .before .before .byte-at .ensures) (not-true _ (c .before .if3 .taken)) (c .turn-to3 .ensures)
+returns-3 c = text-bare (c .before .before .before .before .before .before .before .before .before .pre .1) (c .before .before .before .before .before .before .before .before .before .pre .2) (c .before .before .before .before .before .before .before .before .before .pre .3) (c .before .before .before .before .before .before .before .string-end .ensures) (not-false _ (c .before .before .before .before .before .if1 .left)) (c .before .before .before .before .if2 .left) (c .before .before .before .blank-run .ensures) (c .before .before .byte-at .ensures) (not-true _ (c .before .if3 .taken)) (c .turn-to3 .ensures)
 
 add-turn-to : tie.Need-add-turn-to
 add-turn-to c = search needs
@@ -43,7 +43,7 @@ turn-to-requires-4 : tie.Need-turn-to-requires-4
 turn-to-requires-4 c κs = search needs
 
 returns-4 : tie.Need-returns-4
-returns-4 c = text-named (c .before .before .before .before .before .before .before .before .before .pre .1) (c .before .before .before .before .before .before .before .before .before .pre .2) (c .before .before .before .before .before .before .before .before .before .pre .3) (c .before .before .before .before .before .before .before .string-end .ensures) (not-false _ (c .before .before .before .before .before .if1 .left)) (c .before .before .before .before .if2 .left) (c .before .before .before .blanks-end .ensures) (c .before .before .byte-at .ensures) (not-false _ (c .before .if3 .left)) (c .turn-to4 .ensures)
+returns-4 c = text-named (c .before .before .before .before .before .before .before .before .before .pre .1) (c .before .before .before .before .before .before .before .before .before .pre .2) (c .before .before .before .before .before .before .before .before .before .pre .3) (c .before .before .before .before .before .before .before .string-end .ensures) (not-false _ (c .before .before .before .before .before .if1 .left)) (c .before .before .before .before .if2 .left) (c .before .before .before .blank-run .ensures) (c .before .before .byte-at .ensures) (not-false _ (c .before .if3 .left)) (c .turn-to4 .ensures)
 
 pub text-spec : {M : Type 1} → statement M
 text-spec =
@@ -55,7 +55,7 @@ text-spec =
     returns
     turn-to-requires-2
     returns-2
-    blanks-end-requires
+    blank-run-requires
     byte-at-requires
     turn-to-requires-3
     returns-3
