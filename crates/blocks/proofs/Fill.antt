@@ -16,7 +16,7 @@ use Rattle.bits.specs.Bits.{on, bit, digit}
 use Rattle.bits.specs.Laws.{lt-or-ge, digit-lt, on-digit, bit-zero}
 use Rattle.bits.specs.Truth.{beq→eq, allBelow, all-at}
 use Rattle.blocks.specs.Words.{byteAt, isBackslash}
-use Rattle.blocks.specs.Parts.{isQuote, isOpening, isClosing, Padded, Block}
+use Rattle.blocks.specs.Parts.{isQuote, isOpening, isClosing, Padded}
 
 -- d holds v at the places before i, and zeros from there on
 pub record Filled (v : ℕ → ℕ) (d : List ℕ) (i : ℕ) : Type 0 where
@@ -122,24 +122,15 @@ closing-law = brace-law 0x5D 0x7D (omega arith) (omega arith) tt
 
 -- ---- a short block in front of zeros
 
-pub padded-full : (s : List ℕ) → 64 ≤ length s → Padded s (replicate {A = ℕ} 64 0)
-padded-full s h = record { long = length-replicate {A = ℕ} 64 0; like = λ l. absurd (omega arith) }
-
-pub padded-short : (s d : List ℕ) (i : ℕ) → length s ≤ i → Filled (byteAt s) d i → Padded s d
+pub padded-all : (s d : List ℕ) (i : ℕ) → length s ≤ i → Filled (byteAt s) d i → Padded s d
 unfolding byteAt
-padded-short s d i h m = record {
+padded-all s d i h m = record {
   long = m .long;
-  like = λ l j r. ⊎-elim
+  like = λ j r. ⊎-elim
       (λ (q : j < i). m .front j q)
       (λ (q : i ≤ j). m .zeros j q ∙ sym (List·getD-eq-default s 0 (omega arith)))
       (lt-or-ge j i);
 }
-
-pub block-full : (s : List ℕ) → 64 ≤ length s → Block s s
-block-full s h = record { long = h; like = λ i l. refl }
-
-pub block-short : (s d : List ℕ) → length s < 64 → Padded s d → Block s d
-block-short s d h m = record { long = omega (arith, m .long); like = m .like h }
 
 -- ---- the four arrays of flags
 

@@ -2,7 +2,7 @@
 use mathlib.Core.Path.{_≡_}
 use mathlib.Core.Bool.{Bool, false, not, xor, cond, _&&_, _||_}
 use mathlib.Core.List.{List}
-use Prim.Native.Nat.{ℕ, zero, suc, _+_, _-_, _<_, _≤_}
+use Prim.Native.Nat.{ℕ, zero, suc, _+_, _-_, _<_}
 use lib.Dec.{eqb, leb}
 use lib.ListN.{length}
 use Rattle.bits.specs.Bits.{bit}
@@ -54,17 +54,7 @@ pub record Whole (s : List ℕ) (inside odd : Bool) (quotes strings opening clos
   pub backslashes-at : (i : ℕ) → i < 64 → bit i backslashes ≡ isBackslash s i
   pub escaped-at : (i : ℕ) → i < 64 → bit i escaped ≡ oddBefore odd s i
 
--- d has 64 bytes: those of s and zeros behind them, where s has fewer than 64
+-- d has 64 bytes: those of s and zeros behind them
 pub record Padded (s d : List ℕ) : Type 0 where
   pub long : length d ≡ 64
-  pub like : length s < 64 → (i : ℕ) → i < 64 → byteAt d i ≡ byteAt s i
-
--- d has at least 64 bytes, and the first 64 are those of s with zeros behind
-pub record Block (s d : List ℕ) : Type 0 where
-  pub long : 64 ≤ length d
   pub like : (i : ℕ) → i < 64 → byteAt d i ≡ byteAt s i
-
--- an odd run of backslashes ends the block of a part of n bytes
-pub record OddAtEnd (backslashes escaped n : ℕ) (r : Bool) : Type 0 where
-  pub short : n < 64 → r ≡ bit n escaped
-  pub full : 64 ≤ n → r ≡ (bit 63 backslashes && not (bit 63 escaped))

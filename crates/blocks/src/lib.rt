@@ -3,11 +3,11 @@ use bits::has;
 use bits::load8;
 ghost use mathlib.Core.Path.{_≡_};
 ghost use mathlib.Core.Bool.{true, false};
-ghost use Prim.Native.Nat.{ℕ, _+_, _*_, _-_, _/_, _%_, _^_, _<_, _≤_, min};
+ghost use Prim.Native.Nat.{ℕ, _+_, _*_, _-_, _/_, _%_, _^_, _<_, _≤_};
 ghost use lib.ListN.{length};
 ghost use Rattle.bits.specs.Bits.{on, bit};
 ghost use Rattle.blocks.specs.Words.{byteAt};
-ghost use Rattle.blocks.specs.Parts.{oddRun, parity, Swapped, Classified, Whole, Padded, Block, OddAtEnd};
+ghost use Rattle.blocks.specs.Parts.{oddRun, parity, Swapped, Classified, Whole, Padded};
 ghost use Rattle.blocks.specs.Sorted.{Sorted};
 
 // Words one to four of a block, and the facts that hold after it.
@@ -196,14 +196,12 @@ fn sort_full(s: &[u8], inside: bool, odd: bool) -> FullWords
     }
 }
 
-// The bytes of a part shorter than a block, with zeros behind them; of a longer part nothing but zeros.
+// The bytes of a part shorter than a block, with zeros behind them.
 fn padded(rest: &[u8]) -> [u8; BLOCK]
+    requires { ⌜ length (now rest) < 64 ⌝ }
     ensures { λ r. ⌜ Padded (now (rest .entry)) r ⌝ }
 {
     let mut block: [u8; BLOCK] = [0u8; BLOCK];
-    if rest.len() >= BLOCK {
-        return block;
-    }
     let mut i: usize = 0;
     while i < rest.len() {
         block[i] = rest[i];
@@ -212,42 +210,37 @@ fn padded(rest: &[u8]) -> [u8; BLOCK]
     block
 }
 
-// The part itself if it has a block's bytes, else the padded ones.
-fn block_of<'a>(rest: &'a [u8], pad: &'a [u8; BLOCK]) -> &'a [u8]
-    requires { ⌜ Padded (now rest) (now pad) ⌝ }
-    ensures { λ r. ⌜ Block (now (rest .entry)) (now r) ⌝ }
-{
-    if rest.len() >= BLOCK { rest } else { pad }
-}
-
-// A bit for each byte of the block of a part of n bytes.
+// A bit for each of n bytes.
 fn size_mask(n: usize) -> u64
-    ensures { λ r. ⌜ r ≡ 2 ^ min n 64 - 1 ⌝ }
+    requires { ⌜ n < 64 ⌝ }
+    ensures { λ r. ⌜ r ≡ 2 ^ n - 1 ⌝ }
 {
-    if n >= BLOCK {
-        return ALL;
-    }
     (1u64 << n) - 1
 }
 
-// Whether an odd run of backslashes ends the block of a part of n bytes.
-fn odd_at_end(backslashes: u64, escaped: u64, n: usize) -> bool
-    ensures { λ r. ⌜ OddAtEnd backslashes escaped n r ⌝ }
+// Sorts the block at the front of a part that has a block's bytes: an odd run ends it where its last byte is a backslash that is not escaped.
+fn sort_long(rest: &[u8], inside: bool, odd: bool) -> Words
+    requires { ⌜ 64 ≤ length (now rest) ⌝ }
+    ensures { λ r. ⌜ Sorted (now (rest .entry)) inside odd r ⌝ }
 {
-    if n >= BLOCK {
-        return has(backslashes & (escaped ^ ALL), LAST);
+    let w = sort_full(rest, inside, odd);
+    Words {
+        quotes: w.quotes,
+        strings: w.strings,
+        opening: w.opening,
+        closing: w.closing,
+        inside: has(w.strings, LAST),
+        odd: has(w.backslashes & (w.escaped ^ ALL), LAST),
     }
-    has(escaped, n)
 }
 
-// Sorts the block at the front of the rest of a record, for all bytes: words one to four, and the two facts for the next block.
-// An empty rest gives words of 0 and both facts back.
-pub fn sort_block(rest: &[u8], inside: bool, odd: bool) -> Words
+// Sorts a part shorter than a block: padded, and the words cut to its bytes.
+fn sort_short(rest: &[u8], inside: bool, odd: bool) -> Words
+    requires { ⌜ length (now rest) < 64 ⌝ }
     ensures { λ r. ⌜ Sorted (now (rest .entry)) inside odd r ⌝ }
 {
     let pad = padded(rest);
-    let block = block_of(rest, &pad);
-    let w = sort_full(block, inside, odd);
+    let w = sort_full(&pad, inside, odd);
     let mask = size_mask(rest.len());
     Words {
         quotes: w.quotes & mask,
@@ -255,6 +248,17 @@ pub fn sort_block(rest: &[u8], inside: bool, odd: bool) -> Words
         opening: w.opening & mask,
         closing: w.closing & mask,
         inside: has(w.strings, LAST),
-        odd: odd_at_end(w.backslashes, w.escaped, rest.len()),
+        odd: has(w.escaped, rest.len()),
     }
+}
+
+// Sorts the block at the front of the rest of a record, for all bytes: words one to four, and the two facts for the next block.
+// An empty rest gives words of 0 and both facts back.
+pub fn sort_block(rest: &[u8], inside: bool, odd: bool) -> Words
+    ensures { λ r. ⌜ Sorted (now (rest .entry)) inside odd r ⌝ }
+{
+    if rest.len() >= BLOCK {
+        return sort_long(rest, inside, odd);
+    }
+    sort_short(rest, inside, odd)
 }
