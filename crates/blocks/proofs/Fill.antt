@@ -1,22 +1,20 @@
--- An array of 64 zeros filled from the front; flags whose `or` is 0 are all down; and one `or` brings a square bracket and a brace
--- together, which is computed for every byte. Assumes nothing.
-use mathlib.Core.Path.{_≡_, refl, sym, ap, _∙_}
+-- An array of 64 zeros filled from the front; and one `or` brings a square bracket and a brace together, which is computed for every
+-- byte. Assumes nothing.
+use mathlib.Core.Path.{_≡_, refl, sym, _∙_}
 use mathlib.Core.Bool.{Bool, true, false, _||_, Bool·beq}
 use mathlib.Core.List.{List}
 use mathlib.Core.Logic.{⊎-elim}
 use Prim.Native.Nat.{ℕ, _+_, _<_, _≤_}
 use native.Mathlib.Omega.{arith}
-use lib.Bits.{bitOr, or-add-and, and-le-l, and-le-r}
+use lib.Bits.{bitOr, or-add-and, and-le-r}
 use lib.Dec.{T, eqb}
 use lib.ListN.{length, getD, set, replicate, length-set, length-replicate, getD-replicate, List·getD-eq-default}
 use lib.Seq.{getD-set-same, getD-set-other}
 use borrow.Author.Tests.{eqb-true, eqb-false, ne-eqb}
-use mir.Val.{boolByte}
-use Rattle.bits.specs.Bits.{on, bit, digit}
-use Rattle.bits.specs.Laws.{lt-or-ge, digit-lt, on-digit, bit-zero}
+use Rattle.bits.specs.Laws.{lt-or-ge}
 use Rattle.bits.specs.Truth.{beq→eq, allBelow, all-at}
-use Rattle.blocks.specs.Words.{byteAt, isBackslash}
-use Rattle.blocks.specs.Parts.{isQuote, isOpening, isClosing, Padded, Block}
+use Rattle.blocks.specs.Words.{byteAt}
+use Rattle.blocks.specs.Parts.{Padded}
 
 -- d holds v at the places before i, and zeros from there on
 pub record Filled (v : ℕ → ℕ) (d : List ℕ) (i : ℕ) : Type 0 where
@@ -49,52 +47,6 @@ filled-more v d i x h e m = record {
         let n : j ≡ i → ⊥ = eqb-false j i q in
         getD-set-other d i j x 0 n ∙ m .front j (omega arith)
 
--- ---- flags
-
-abbrev pub flagOf : (ℕ → Bool) → ℕ → ℕ
-flagOf g j = digit (g j)
-
-pub flag-digit : (b : Bool) → boolByte b ≡ digit b
-unfolding digit
-flag-digit true = refl
-flag-digit false = refl
-
-module _ (g : ℕ → Bool) (f : List ℕ) (i : ℕ) (m : Filled (flagOf g) f i) where
-  pub flags-small : (j : ℕ) → byteAt f j < 2
-  flags-small j = ⊎-elim
-      (λ (h : j < i). omega (arith, m .front j h, digit-lt (g j)))
-      (λ (h : i ≤ j). omega (arith, m .zeros j h))
-      (lt-or-ge j i)
-
-  pub flags-on : 64 ≤ i → (j : ℕ) → j < 64 → on (byteAt f j) ≡ g j
-  flags-on l j h = ap on (m .front j (omega arith)) ∙ on-digit (g j)
-
-or-none : (x y : ℕ) → bitOr x y ≡ 0 → (x ≡ 0) × (y ≡ 0)
-or-none x y e = (omega (arith, or-add-and x y, and-le-l x y, and-le-r x y), omega (arith, or-add-and x y, and-le-l x y, and-le-r x y))
-
--- the flags before place i are down where their `or` is 0
-pub Down : List ℕ → ℕ → ℕ → Type 0
-Down f any i = any ≡ 0 → (j : ℕ) → j < i → byteAt f j ≡ 0
-
-pub down-none : (f : List ℕ) → Down f 0 0
-unfolding Down
-down-none f e j h = absurd (omega arith)
-
-pub down-more : (f : List ℕ) (any i : ℕ) → Down f any i → Down f (bitOr any (getD f i 0)) (i + 1)
-unfolding Down byteAt
-down-more f any i d e j h = ⊎-elim
-    (λ (l : j < i). d (or-none any (getD f i 0) e .0) j l)
-    (λ (l : i ≤ j). let z : j ≡ i = omega arith in ap (λ (k : ℕ). getD f k 0) z ∙ or-none any (getD f i 0) e .1)
-    (lt-or-ge j i)
-
-pub down-all : (f : List ℕ) (any i : ℕ) → 64 ≤ i → Down f any i → eqb any 0 ≡ true → (j : ℕ) → j < 64 → byteAt f j ≡ 0
-unfolding Down
-down-all f any i h d e j l = d (eqb-true any 0 e) j (omega arith)
-
-pub down-word : (f : List ℕ) → ((j : ℕ) → j < 64 → byteAt f j ≡ 0) → (i : ℕ) → i < 64 → bit i 0 ≡ on (byteAt f i)
-unfolding on
-down-word f d i h = bit-zero i ∙ sym (ap on (d i h))
-
 -- ---- brackets
 
 abbrev pub brace : ℕ → ℕ → ℕ → Bool
@@ -122,44 +74,12 @@ closing-law = brace-law 0x5D 0x7D (omega arith) (omega arith) tt
 
 -- ---- a short block in front of zeros
 
-pub padded-full : (s : List ℕ) → 64 ≤ length s → Padded s (replicate {A = ℕ} 64 0)
-padded-full s h = record { long = length-replicate {A = ℕ} 64 0; like = λ l. absurd (omega arith) }
-
-pub padded-short : (s d : List ℕ) (i : ℕ) → length s ≤ i → Filled (byteAt s) d i → Padded s d
+pub padded-all : (s d : List ℕ) (i : ℕ) → length s ≤ i → Filled (byteAt s) d i → Padded s d
 unfolding byteAt
-padded-short s d i h m = record {
+padded-all s d i h m = record {
   long = m .long;
-  like = λ l j r. ⊎-elim
+  like = λ j r. ⊎-elim
       (λ (q : j < i). m .front j q)
       (λ (q : i ≤ j). m .zeros j q ∙ sym (List·getD-eq-default s 0 (omega arith)))
       (lt-or-ge j i);
-}
-
-pub block-full : (s : List ℕ) → 64 ≤ length s → Block s s
-block-full s h = record { long = h; like = λ i l. refl }
-
-pub block-short : (s d : List ℕ) → length s < 64 → Padded s d → Block s d
-block-short s d h m = record { long = omega (arith, m .long); like = m .like h }
-
--- ---- the four arrays of flags
-
-pub record Flagging (s q b o c : List ℕ) (i : ℕ) : Type 0 where
-  pub quotes : Filled (flagOf (isQuote s)) q i
-  pub backslashes : Filled (flagOf (isBackslash s)) b i
-  pub opening : Filled (flagOf (isOpening s)) o i
-  pub closing : Filled (flagOf (isClosing s)) c i
-
-pub flagging-none : (s : List ℕ)
-    → Flagging s (replicate {A = ℕ} 64 0) (replicate {A = ℕ} 64 0) (replicate {A = ℕ} 64 0) (replicate {A = ℕ} 64 0) 0
-flagging-none s = record { quotes = filled-none _; backslashes = filled-none _; opening = filled-none _; closing = filled-none _ }
-
-pub flagging-more : (s q b o c : List ℕ) (i : ℕ) → i < 64 → Flagging s q b o c i
-    → Flagging s (set q i (boolByte (eqb (getD s i 0) 0x22))) (set b i (boolByte (eqb (getD s i 0) 0x5C)))
-    (set o i (boolByte (eqb (bitOr (getD s i 0) 32) 0x7B))) (set c i (boolByte (eqb (bitOr (getD s i 0) 32) 0x7D))) (i + 1)
-unfolding byteAt isBackslash
-flagging-more s q b o c i h m = record {
-  quotes = filled-more _ q i _ h (flag-digit (isQuote s i)) (m .quotes);
-  backslashes = filled-more _ b i _ h (flag-digit (isBackslash s i)) (m .backslashes);
-  opening = filled-more _ o i _ h (ap boolByte (opening-law (getD s i 0)) ∙ flag-digit (isOpening s i)) (m .opening);
-  closing = filled-more _ c i _ h (ap boolByte (closing-law (getD s i 0)) ∙ flag-digit (isClosing s i)) (m .closing);
 }

@@ -3,4 +3,5 @@ pub mod Parity
 pub mod Escape
 pub mod Gather
 pub mod Fill
+pub mod Packing
 pub mod Sort

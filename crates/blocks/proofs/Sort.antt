@@ -1,21 +1,20 @@
 -- The words of 64 places from the places of the bytes: a quote is real where no odd run stands before it, word two is the parity of the
--- real quotes, and brackets count outside it. A mask cuts them to the block's size. Assumes nothing.
+-- real quotes, and brackets count outside it. They are those of a full block; a mask cuts them to a shorter one. Assumes nothing.
 use mathlib.Core.Path.{_≡_, refl, sym, ap, ap₂, _∙_}
 use mathlib.Core.Bool.{Bool, false, not, xor, _&&_}
 use mathlib.Core.List.{List}
-use mathlib.Core.Logic.{⊎-elim}
-use Prim.Native.Nat.{ℕ, zero, suc, _+_, _-_, _*_, _%_, _^_, _<_, _≤_, min}
-use native.Mathlib.Nat.{one-mul, min-eq-left, min-eq-right}
+use Prim.Native.Nat.{ℕ, zero, suc, _+_, _-_, _*_, _%_, _^_, _<_, _≤_}
+use native.Mathlib.Nat.{one-mul}
 use native.Mathlib.Numerals.{add-one}
 use native.Mathlib.Omega.{arith}
 use lib.Bits.{bitAnd, bitXor, and-mask}
 use lib.ListN.{length}
 use lib.Pow.{shl-exact}
 use Rattle.bits.specs.Bits.{bit, number}
-use Rattle.bits.specs.Laws.{lt-or-ge, bit-and, bit-xor, bit-not, number-of}
+use Rattle.bits.specs.Laws.{bit-and, bit-xor, bit-not, number-of, number-is}
 use Rattle.blocks.specs.Words.{isBackslash, oddBefore, realQuote, oddQuotes, inString, opensAt, closesAt, blockSize, quotesWord, stringsWord, openingWord, closingWord, insideAfter, oddAfter}
-use Rattle.blocks.specs.Laws.{size-full, size-short, size-le, backslash-same, odd-same, quote-same, string-same, opens-same, closes-same, oddQuotes-past}
-use Rattle.blocks.specs.Parts.{oddRun, parity, isOpening, isClosing, Classified, Whole, Block, OddAtEnd}
+use Rattle.blocks.specs.Laws.{size-full, size-short, inside-full, odd-full, odd-same, quote-same, string-same, opens-same, closes-same, oddQuotes-past}
+use Rattle.blocks.specs.Parts.{oddRun, parity, isOpening, isClosing, Classified, Whole, Padded}
 use Rattle.blocks.proofs.Parity.{parity-from}
 
 -- ---- runs and parities of the bytes
@@ -72,72 +71,80 @@ module _ (s : List ℕ) (inside odd : Bool) (q b o c e prefix fill : ℕ) (class
     escaped-at = escaped-bit;
   }
 
--- ---- cut to the block's size
+-- ---- a full block
+
+module _ (s : List ℕ) (long : 64 ≤ length s) (inside odd : Bool) (q t o c b e : ℕ) (whole : Whole s inside odd q t o c b e) where
+  full : (w : ℕ) (f : ℕ → Bool) → w < 2 ^ 64 → ((i : ℕ) → i < 64 → bit i w ≡ f i) → w ≡ number (blockSize s) f
+  full w f l h = number-is 64 w f l h ∙ ap (λ (n : ℕ). number n f) (sym (size-full s long))
+
+  pub quotes-full : q < 2 ^ 64 → q ≡ quotesWord odd s
+  unfolding quotesWord
+  quotes-full l = full q (realQuote odd s) l (whole .quotes-at)
+
+  pub strings-full : t < 2 ^ 64 → t ≡ stringsWord inside odd s
+  unfolding stringsWord
+  strings-full l = full t (inString inside odd s) l (whole .strings-at)
+
+  pub opening-full : o < 2 ^ 64 → o ≡ openingWord inside odd s
+  unfolding openingWord
+  opening-full l = full o (opensAt inside odd s) l (whole .opening-at)
+
+  pub closing-full : c < 2 ^ 64 → c ≡ closingWord inside odd s
+  unfolding closingWord
+  closing-full l = full c (closesAt inside odd s) l (whole .closing-at)
+
+  pub inside-last : bit 63 t ≡ insideAfter inside odd s
+  unfolding inString
+  inside-last = whole .strings-at 63 (omega arith) ∙ sym (inside-full s inside odd long)
+
+  -- the last byte is a backslash that is not escaped
+  pub odd-last : bit 63 (bitAnd b (bitXor e all-ones)) ≡ oddAfter odd s
+  unfolding oddBefore
+  odd-last =
+      bit-and 63 b (bitXor e all-ones)
+      ∙ ap₂ (λ (x y : Bool). x && y) (whole .backslashes-at 63 (omega arith)) (bit-not 64 63 e (omega arith) ∙ ap not (whole .escaped-at 63 (omega arith)))
+      ∙ sym (odd-full s inside odd long)
+
+-- ---- a shorter block
 
 pub mask-short : (n : ℕ) → n < 64 → 1 * 2 ^ n % 2 ^ 64 ≡ 2 ^ n
 mask-short n h = shl-exact {a = 1} 1 n 64 (omega arith) (omega arith) ∙ one-mul (2 ^ n)
 
-pub mask-law : (n : ℕ) → n < 64 → 1 * 2 ^ n % 2 ^ 64 - 1 ≡ 2 ^ min n 64 - 1
-mask-law n h = ap (λ (x : ℕ). x - 1) (mask-short n h) ∙ ap (λ (x : ℕ). 2 ^ x - 1) (sym (min-eq-left (omega arith)))
+module _ (s d : List ℕ) (short : length s < 64) (pad : Padded s d) (inside odd : Bool) (q t o c b e : ℕ) (whole : Whole d inside odd q t o c b e)
+    (mask : ℕ) (masked : mask ≡ 2 ^ length s - 1) where
+  size : blockSize s ≡ length s
+  size = size-short s (omega arith)
 
-pub mask-full : (n : ℕ) → 64 ≤ n → all-ones ≡ 2 ^ min n 64 - 1
-mask-full n h = ap (λ (x : ℕ). 2 ^ x - 1) (sym (min-eq-right h))
-
-module _ (s d : List ℕ) (block : Block s d) (inside odd : Bool) (q t o c b e : ℕ) (whole : Whole d inside odd q t o c b e) (mask : ℕ)
-    (masked : mask ≡ 2 ^ min (length s) 64 - 1) where
   cut : (w : ℕ) (f g : ℕ → Bool) → ((i : ℕ) → i < 64 → bit i w ≡ f i) → ((i : ℕ) → i < 64 → f i ≡ g i) → bitAnd w mask ≡ number (blockSize s) g
-  unfolding blockSize
   cut w f g h l =
-      ap (bitAnd w) masked ∙ and-mask w (blockSize s)
-      ∙ number-of (blockSize s) w g (λ i r. h i (omega (arith, size-le s)) ∙ l i (omega (arith, size-le s)))
+      ap (bitAnd w) masked ∙ and-mask w (length s)
+      ∙ number-of (length s) w g (λ i r. h i (omega arith) ∙ l i (omega arith)) ∙ ap (λ (n : ℕ). number n g) (sym size)
 
   pub quotes-cut : bitAnd q mask ≡ quotesWord odd s
   unfolding quotesWord
-  quotes-cut = cut q (realQuote odd d) (realQuote odd s) (whole .quotes-at) (quote-same d s 64 (block .like) inside odd)
+  quotes-cut = cut q (realQuote odd d) (realQuote odd s) (whole .quotes-at) (quote-same d s 64 (pad .like) inside odd)
 
   pub strings-cut : bitAnd t mask ≡ stringsWord inside odd s
   unfolding stringsWord
-  strings-cut = cut t (inString inside odd d) (inString inside odd s) (whole .strings-at) (string-same d s 64 (block .like) inside odd)
+  strings-cut = cut t (inString inside odd d) (inString inside odd s) (whole .strings-at) (string-same d s 64 (pad .like) inside odd)
 
   pub opening-cut : bitAnd o mask ≡ openingWord inside odd s
   unfolding openingWord
-  opening-cut = cut o (opensAt inside odd d) (opensAt inside odd s) (whole .opening-at) (opens-same d s 64 (block .like) inside odd)
+  opening-cut = cut o (opensAt inside odd d) (opensAt inside odd s) (whole .opening-at) (opens-same d s 64 (pad .like) inside odd)
 
   pub closing-cut : bitAnd c mask ≡ closingWord inside odd s
   unfolding closingWord
-  closing-cut = cut c (closesAt inside odd d) (closesAt inside odd s) (whole .closing-at) (closes-same d s 64 (block .like) inside odd)
+  closing-cut = cut c (closesAt inside odd d) (closesAt inside odd s) (whole .closing-at) (closes-same d s 64 (pad .like) inside odd)
 
   -- past the end no quote is counted
   pub inside-cut : bit 63 t ≡ insideAfter inside odd s
   unfolding insideAfter inString
-  inside-cut = whole .strings-at 63 (omega arith) ∙ string-same d s 64 (block .like) inside odd 63 (omega arith) ∙ ⊎-elim
-      (λ (h : length s < 64).
+  inside-cut =
       let k : 64 ≡ (64 - length s) + length s = omega arith in
-      ap (oddQuotes inside odd s) k ∙ oddQuotes-past s inside odd (length s) (64 - length s) (omega arith)
-      ∙ ap (oddQuotes inside odd s) (sym (size-short s (omega arith))))
-      (λ (h : 64 ≤ length s). ap (oddQuotes inside odd s) (sym (size-full s h)))
-      (lt-or-ge (length s) 64)
+      whole .strings-at 63 (omega arith) ∙ string-same d s 64 (pad .like) inside odd 63 (omega arith)
+      ∙ ap (oddQuotes inside odd s) k ∙ oddQuotes-past s inside odd (length s) (64 - length s) (omega arith)
+      ∙ ap (oddQuotes inside odd s) (sym size)
 
-  pub odd-cut : (r : Bool) → OddAtEnd b e (length s) r → r ≡ oddAfter odd s
-  unfolding oddAfter oddBefore
-  odd-cut r at = ⊎-elim
-      (λ (h : length s < 64).
-      at .short h ∙ whole .escaped-at (length s) h ∙ odd-same d s 64 (block .like) inside odd (length s) (omega arith)
-      ∙ ap (oddBefore odd s) (sym (size-short s (omega arith))))
-      (λ (h : 64 ≤ length s).
-      at .full h
-      ∙ ap₂ (λ (x y : Bool). x && not y)
-      (whole .backslashes-at 63 (omega arith) ∙ backslash-same d s 64 (block .like) inside odd 63 (omega arith))
-      (whole .escaped-at 63 (omega arith) ∙ odd-same d s 64 (block .like) inside odd 63 (omega arith))
-      ∙ ap (oddBefore odd s) (sym (size-full s h)))
-      (lt-or-ge (length s) 64)
-
-module _ (b e n : ℕ) (r : Bool) where
-  pub ends-full : 64 ≤ n → r ≡ bit 63 (bitAnd b (bitXor e all-ones)) → OddAtEnd b e n r
-  ends-full h q = record {
-    short = λ l. absurd (omega arith);
-    full = λ l. q ∙ bit-and 63 b (bitXor e all-ones) ∙ ap (λ (x : Bool). bit 63 b && x) (bit-not 64 63 e (omega arith));
-  }
-
-  pub ends-short : n < 64 → r ≡ bit n e → OddAtEnd b e n r
-  ends-short h q = record { short = λ l. q; full = λ l. absurd (omega arith) }
+  pub odd-cut : bit (length s) e ≡ oddAfter odd s
+  unfolding oddAfter
+  odd-cut = whole .escaped-at (length s) short ∙ odd-same d s 64 (pad .like) inside odd (length s) (omega arith) ∙ ap (oddBefore odd s) (sym size)

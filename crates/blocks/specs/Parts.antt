@@ -2,7 +2,7 @@
 use mathlib.Core.Path.{_≡_}
 use mathlib.Core.Bool.{Bool, false, not, xor, cond, _&&_, _||_}
 use mathlib.Core.List.{List}
-use Prim.Native.Nat.{ℕ, zero, suc, _+_, _-_, _<_, _≤_}
+use Prim.Native.Nat.{ℕ, zero, suc, _+_, _-_, _*_, _%_, _<_}
 use lib.Dec.{eqb, leb}
 use lib.ListN.{length}
 use Rattle.bits.specs.Bits.{bit}
@@ -38,6 +38,30 @@ isOpening s i = eqb (byteAt s i) 0x5B || eqb (byteAt s i) 0x7B
 abbrev pub isClosing : List ℕ → ℕ → Bool
 isClosing s i = eqb (byteAt s i) 0x5D || eqb (byteAt s i) 0x7D
 
+-- four flags at the places 0, 2, 4 and 6, and nothing between them
+unfoldable pub spaced : (a b c d : Bool) → ℕ → Bool
+spaced a b c d j = cond (eqb j 0) a (cond (eqb j 2) b (cond (eqb j 4) c (eqb j 6 && d)))
+
+-- byte k of a class, packed: at each even place j the flag of byte 8 * j + k of the block
+unfoldable pub column : (ℕ → Bool) → ℕ → ℕ → Bool
+column g k j = eqb (j % 2) 0 && g (8 * j + k)
+
+-- the first n bytes of m from `at` on are the packed flags g
+unfoldable pub Packed : (ℕ → Bool) → List ℕ → ℕ → ℕ → Type 0
+Packed g m at n = (k : ℕ) → k < n → (j : ℕ) → j < 8 → bit j (byteAt m (at + k)) ≡ column g k j
+
+-- 16 bytes of m for each class, of which the first n are the packed flags of the first 64 bytes of s
+pub record PackedClasses (s m : List ℕ) (n : ℕ) : Type 0 where
+  pub long : length m ≡ 64
+  pub quotes : Packed (isQuote s) m 0 n
+  pub backslashes : Packed (isBackslash s) m 16 n
+  pub opening : Packed (isOpening s) m 32 n
+  pub closing : Packed (isClosing s) m 48 n
+
+-- r is the word of the flags that are packed in m from `at` on, whichever they are
+pub record Unpacked (m : List ℕ) (at r : ℕ) : Type 0 where
+  pub flags : (g : ℕ → Bool) → Packed g m at 16 → (i : ℕ) → i < 64 → bit i r ≡ g i
+
 -- the places of quotes, backslashes and brackets among the first 64 bytes of s
 pub record Classified (s : List ℕ) (quotes backslashes opening closing : ℕ) : Type 0 where
   pub quote-at : (i : ℕ) → i < 64 → bit i quotes ≡ isQuote s i
@@ -54,17 +78,7 @@ pub record Whole (s : List ℕ) (inside odd : Bool) (quotes strings opening clos
   pub backslashes-at : (i : ℕ) → i < 64 → bit i backslashes ≡ isBackslash s i
   pub escaped-at : (i : ℕ) → i < 64 → bit i escaped ≡ oddBefore odd s i
 
--- d has 64 bytes: those of s and zeros behind them, where s has fewer than 64
+-- d has 64 bytes: those of s and zeros behind them
 pub record Padded (s d : List ℕ) : Type 0 where
   pub long : length d ≡ 64
-  pub like : length s < 64 → (i : ℕ) → i < 64 → byteAt d i ≡ byteAt s i
-
--- d has at least 64 bytes, and the first 64 are those of s with zeros behind
-pub record Block (s d : List ℕ) : Type 0 where
-  pub long : 64 ≤ length d
   pub like : (i : ℕ) → i < 64 → byteAt d i ≡ byteAt s i
-
--- an odd run of backslashes ends the block of a part of n bytes
-pub record OddAtEnd (backslashes escaped n : ℕ) (r : Bool) : Type 0 where
-  pub short : n < 64 → r ≡ bit n escaped
-  pub full : 64 ≤ n → r ≡ (bit 63 backslashes && not (bit 63 escaped))

@@ -3,11 +3,10 @@ use bits::has;
 use bits::load8;
 ghost use mathlib.Core.Path.{_≡_};
 ghost use mathlib.Core.Bool.{true, false};
-ghost use Prim.Native.Nat.{ℕ, _+_, _*_, _-_, _/_, _%_, _^_, _<_, _≤_, min};
+ghost use Prim.Native.Nat.{ℕ, _+_, _*_, _-_, _/_, _%_, _^_, _<_, _≤_};
 ghost use lib.ListN.{length};
-ghost use Rattle.bits.specs.Bits.{on, bit};
-ghost use Rattle.blocks.specs.Words.{byteAt};
-ghost use Rattle.blocks.specs.Parts.{oddRun, parity, Swapped, Classified, Whole, Padded, Block, OddAtEnd};
+ghost use Rattle.bits.specs.Bits.{bit};
+ghost use Rattle.blocks.specs.Parts.{oddRun, parity, Swapped, spaced, PackedClasses, Unpacked, Classified, Whole, Padded};
 ghost use Rattle.blocks.specs.Sorted.{Sorted};
 
 // Words one to four of a block, and the facts that hold after it.
@@ -105,42 +104,57 @@ fn escaped(backslashes: u64, odd: bool) -> u64
     sum ^ EVEN ^ (backslashes | first)
 }
 
-// 64 flags, each 0 or 1, to a word: bit i is flag i.
-fn word(flags: &[u8; BLOCK]) -> u64
-    requires { ⌜ ((i : ℕ) → byteAt (now flags) i < 2) ⌝ }
-    ensures { λ r. ⌜ ((i : ℕ) → i < 64 → bit i r ≡ on (byteAt (now (flags .entry)) i)) ⌝ }
+// Four flags in one byte, at its even places.
+fn four(a: bool, b: bool, c: bool, d: bool) -> u8
+    ensures { λ r. ⌜ ((j : ℕ) → j < 8 → bit j r ≡ spaced a b c d j) ⌝ }
 {
-    let mut rows: u64 = 0;
-    let mut j: usize = 0;
-    while j < 8 {
-        rows = rows | (load8(flags, 8 * j) << j);
-        j += 1;
-    }
-    transpose(rows)
+    a as u8 | (b as u8) << 2 | (c as u8) << 4 | (d as u8) << 6
 }
 
-// Whether every flag is down.
-fn all_down(flags: &[u8; BLOCK]) -> bool
-    ensures { λ r. ⌜ (r ≡ true → (i : ℕ) → i < 64 → byteAt (now (flags .entry)) i ≡ 0) ⌝ }
+// The flags of the first 64 bytes, four in a byte: 16 bytes for the quotes, then for backslashes, for opening and for closing brackets.
+fn pack(s: &[u8]) -> [u8; BLOCK]
+    requires { ⌜ 64 ≤ length (now s) ⌝ }
+    ensures { λ r. ⌜ PackedClasses (now (s .entry)) r 16 ⌝ }
 {
-    let mut any: u8 = 0;
+    let mut m: [u8; BLOCK] = [0u8; BLOCK];
     let mut i: usize = 0;
-    while i < BLOCK {
-        any = any | flags[i];
+    while i < 16 {
+        let a = s[i];
+        let b = s[i + 16];
+        let c = s[i + 32];
+        let d = s[i + 48];
+        m[i] = four(a == QUOTE, b == QUOTE, c == QUOTE, d == QUOTE);
+        m[i + 16] = four(
+            a == BACKSLASH,
+            b == BACKSLASH,
+            c == BACKSLASH,
+            d == BACKSLASH,
+        );
+        m[i + 32] = four(
+            (a | BRACE) == OPENING,
+            (b | BRACE) == OPENING,
+            (c | BRACE) == OPENING,
+            (d | BRACE) == OPENING,
+        );
+        m[i + 48] = four(
+            (a | BRACE) == CLOSING,
+            (b | BRACE) == CLOSING,
+            (c | BRACE) == CLOSING,
+            (d | BRACE) == CLOSING,
+        );
         i += 1;
     }
-    any == 0
+    m
 }
 
-// 64 flags to a word, at once where none is up.
-fn sparse_word(flags: &[u8; BLOCK]) -> u64
-    requires { ⌜ ((i : ℕ) → byteAt (now flags) i < 2) ⌝ }
-    ensures { λ r. ⌜ ((i : ℕ) → i < 64 → bit i r ≡ on (byteAt (now (flags .entry)) i)) ⌝ }
+// The word of the flags that are packed in 16 bytes from `at` on: the first eight have its even rows, the next eight its odd rows.
+fn word(m: &[u8; BLOCK], at: usize) -> u64
+    requires { ⌜ at + 16 ≤ 64 ⌝ }
+    ensures { λ r. ⌜ Unpacked (now (m .entry)) at r ⌝ }
 {
-    if all_down(flags) {
-        return 0;
-    }
-    word(flags)
+    let even = load8(m, at);
+    let odd = load8(m, at + 8);
+    transpose(even | (odd << 1))
 }
 
 // The places of quotes, backslashes and brackets among the first 64 bytes.
@@ -148,24 +162,12 @@ fn classify(s: &[u8]) -> Classes
     requires { ⌜ 64 ≤ length (now s) ⌝ }
     ensures { λ r. ⌜ Classified (now (s .entry)) (r .quotes) (r .backslashes) (r .opening) (r .closing) ⌝ }
 {
-    let mut quotes: [u8; BLOCK] = [0u8; BLOCK];
-    let mut backslashes: [u8; BLOCK] = [0u8; BLOCK];
-    let mut opening: [u8; BLOCK] = [0u8; BLOCK];
-    let mut closing: [u8; BLOCK] = [0u8; BLOCK];
-    let mut i: usize = 0;
-    while i < BLOCK {
-        let b = s[i];
-        quotes[i] = (b == QUOTE) as u8;
-        backslashes[i] = (b == BACKSLASH) as u8;
-        opening[i] = ((b | BRACE) == OPENING) as u8;
-        closing[i] = ((b | BRACE) == CLOSING) as u8;
-        i += 1;
-    }
+    let m = pack(s);
     Classes {
-        quotes: word(&quotes),
-        backslashes: sparse_word(&backslashes),
-        opening: sparse_word(&opening),
-        closing: sparse_word(&closing),
+        quotes: word(&m, 0),
+        backslashes: word(&m, 16),
+        opening: word(&m, 32),
+        closing: word(&m, 48),
     }
 }
 
@@ -196,14 +198,12 @@ fn sort_full(s: &[u8], inside: bool, odd: bool) -> FullWords
     }
 }
 
-// The bytes of a part shorter than a block, with zeros behind them; of a longer part nothing but zeros.
+// The bytes of a part shorter than a block, with zeros behind them.
 fn padded(rest: &[u8]) -> [u8; BLOCK]
+    requires { ⌜ length (now rest) < 64 ⌝ }
     ensures { λ r. ⌜ Padded (now (rest .entry)) r ⌝ }
 {
     let mut block: [u8; BLOCK] = [0u8; BLOCK];
-    if rest.len() >= BLOCK {
-        return block;
-    }
     let mut i: usize = 0;
     while i < rest.len() {
         block[i] = rest[i];
@@ -212,42 +212,38 @@ fn padded(rest: &[u8]) -> [u8; BLOCK]
     block
 }
 
-// The part itself if it has a block's bytes, else the padded ones.
-fn block_of<'a>(rest: &'a [u8], pad: &'a [u8; BLOCK]) -> &'a [u8]
-    requires { ⌜ Padded (now rest) (now pad) ⌝ }
-    ensures { λ r. ⌜ Block (now (rest .entry)) (now r) ⌝ }
-{
-    if rest.len() >= BLOCK { rest } else { pad }
-}
-
-// A bit for each byte of the block of a part of n bytes.
+// A bit for each of n bytes.
 fn size_mask(n: usize) -> u64
-    ensures { λ r. ⌜ r ≡ 2 ^ min n 64 - 1 ⌝ }
+    requires { ⌜ n < 64 ⌝ }
+    ensures { λ r. ⌜ r ≡ 2 ^ n - 1 ⌝ }
 {
-    if n >= BLOCK {
-        return ALL;
-    }
     (1u64 << n) - 1
 }
 
-// Whether an odd run of backslashes ends the block of a part of n bytes.
-fn odd_at_end(backslashes: u64, escaped: u64, n: usize) -> bool
-    ensures { λ r. ⌜ OddAtEnd backslashes escaped n r ⌝ }
+// Sorts the block at the front of a part that has a block's bytes.
+// An odd run ends it where its last byte is a backslash that is not escaped.
+fn sort_long(rest: &[u8], inside: bool, odd: bool) -> Words
+    requires { ⌜ 64 ≤ length (now rest) ⌝ }
+    ensures { λ r. ⌜ Sorted (now (rest .entry)) inside odd r ⌝ }
 {
-    if n >= BLOCK {
-        return has(backslashes & (escaped ^ ALL), LAST);
+    let w = sort_full(rest, inside, odd);
+    Words {
+        quotes: w.quotes,
+        strings: w.strings,
+        opening: w.opening,
+        closing: w.closing,
+        inside: has(w.strings, LAST),
+        odd: has(w.backslashes & (w.escaped ^ ALL), LAST),
     }
-    has(escaped, n)
 }
 
-// Sorts the block at the front of the rest of a record, for all bytes: words one to four, and the two facts for the next block.
-// An empty rest gives words of 0 and both facts back.
-pub fn sort_block(rest: &[u8], inside: bool, odd: bool) -> Words
+// Sorts a part shorter than a block: padded, and the words cut to its bytes.
+fn sort_short(rest: &[u8], inside: bool, odd: bool) -> Words
+    requires { ⌜ length (now rest) < 64 ⌝ }
     ensures { λ r. ⌜ Sorted (now (rest .entry)) inside odd r ⌝ }
 {
     let pad = padded(rest);
-    let block = block_of(rest, &pad);
-    let w = sort_full(block, inside, odd);
+    let w = sort_full(&pad, inside, odd);
     let mask = size_mask(rest.len());
     Words {
         quotes: w.quotes & mask,
@@ -255,6 +251,17 @@ pub fn sort_block(rest: &[u8], inside: bool, odd: bool) -> Words
         opening: w.opening & mask,
         closing: w.closing & mask,
         inside: has(w.strings, LAST),
-        odd: odd_at_end(w.backslashes, w.escaped, rest.len()),
+        odd: has(w.escaped, rest.len()),
     }
+}
+
+// Sorts the block at the front of the rest of a record, for all bytes: words one to four, and the two facts for the next block.
+// An empty rest gives words of 0 and both facts back.
+pub fn sort_block(rest: &[u8], inside: bool, odd: bool) -> Words
+    ensures { λ r. ⌜ Sorted (now (rest .entry)) inside odd r ⌝ }
+{
+    if rest.len() >= BLOCK {
+        return sort_long(rest, inside, odd);
+    }
+    sort_short(rest, inside, odd)
 }
