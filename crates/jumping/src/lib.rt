@@ -1,6 +1,7 @@
 // The jumping walk: one loop over an explicit pile of frames, which goes straight to the end of a dead container.
 use encoding::classes;
 use marks::advance;
+use pairs::Counts;
 use pile::Coming;
 use pile::MAX_DEPTH;
 use pile::Standing;
@@ -29,14 +30,6 @@ mod value;
 const OBJECT: u8 = b'{';
 
 const COMMA: u8 = b',';
-
-// What the walk counted: the pairs used, the most frames on the pile at once, and one more than the first byte of the first node left over,
-// or 0.
-pub struct Walked {
-    pub used: usize,
-    pub peak: usize,
-    pub stop: usize,
-}
 
 // The marks of the root: mark 0, where there is a step.
 fn root_marks(count: usize) -> u16
@@ -180,7 +173,7 @@ fn turn(
 
 // Lists the nodes of a checked record that a query picks out, and counts frames, by the jumping walk: what the list holds and the counts
 // are the tally of all nodes. Where the list has too few pairs it holds the first nodes, and the walk says where the first one left over is.
-pub fn walk_jumping(query: &[u8], steps: Compiled, record: &[u8], list: &mut [u32]) -> Walked
+pub fn walk_jumping(query: &[u8], steps: Compiled, record: &[u8], list: &mut [u32]) -> Counts
     requires { ⌜ Fits (now query) steps ⌝ }
     requires { ⌜ length (now «record») ≤ maxBytes ⌝ }
     ensures { λ r. ⌜ Walks (now (query .entry)) steps (now («record» .entry)) (now (list .entry)) (now (list .exit)) (r .used) (r .peak) (r .stop) ⌝ }
@@ -206,7 +199,7 @@ pub fn walk_jumping(query: &[u8], steps: Compiled, record: &[u8], list: &mut [u3
         );
         let depth = a.depth;
         if depth == 0 {
-            return Walked {
+            return Counts {
                 used: a.used,
                 peak: a.peak,
                 stop: a.stop,

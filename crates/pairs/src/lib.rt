@@ -4,6 +4,13 @@ ghost use Prim.Native.Nat.{_≤_};
 ghost use Rattle.automaton.specs.Halves.{endPair};
 ghost use Rattle.pairs.specs.Pairs.{Begins, Raises};
 
+// What a walk counts: the pairs used, the most frames at once, and one more than the first byte of the first node left over, or 0.
+pub struct Counts {
+    pub used: usize,
+    pub peak: usize,
+    pub stop: usize,
+}
+
 // The pairs used, one more than the first byte of the first node left over or 0, and the pair that waits for its end plus one or 0.
 pub struct Begun {
     pub used: usize,

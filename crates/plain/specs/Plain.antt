@@ -16,7 +16,7 @@ use Rattle.automaton.specs.State.{State, next, start}
 use Rattle.automaton.specs.Tally.{Tally}
 use Rattle.pairs.specs.Pairs.{tally}
 use Rattle.walk.specs.Ahead.{valueAt, ItemsAhead, ValueAhead}
-use Rattle.plain.specs.declared.Counts.{Counts}
+use Rattle.pairs.specs.declared.Counts.{Counts}
 use Rattle.plain.specs.declared.State.{State as Carried}
 
 -- a state, and a tally, by the parts that a walk carries

@@ -1,4 +1,5 @@
 // The plain walk: it enters each container's values one level down, as the nesting goes, and looks at every node.
+use pairs::Counts;
 use query::Compiled;
 ghost use Prim.Native.Nat.{_+_, _≤_, _<_};
 ghost use lib.ListN.{length};
@@ -25,13 +26,6 @@ struct State {
     marks: u16,
     picked: bool,
     frames: usize,
-}
-
-// What a walk counts: the pairs used, the most frames at once, and one more than the first byte of the first node left over, or 0.
-pub struct Counts {
-    pub used: usize,
-    pub peak: usize,
-    pub stop: usize,
 }
 
 // The place after what was walked, and the counts there.
