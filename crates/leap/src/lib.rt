@@ -15,7 +15,7 @@ ghost use Rattle.leap.specs.Passing.{After, Cleared, Apart, Finds, Leads
 const BLOCK: usize = 64;
 
 // How many bytes are passed one by one before the first block is sorted.
-const HEAD: usize = 32;
+const HEAD: usize = 16;
 
 // The classes of most bytes, of brackets, quote and backslash.
 const OTHER: u8 = 0;

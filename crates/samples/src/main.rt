@@ -19,9 +19,9 @@ fn main() {
     limits::run_levels(&mut cases);
     limits::run_open_levels(&mut cases);
     limits::run_lists(&mut cases);
-    // The edge of a block that begins with the record, and of one that begins 32 bytes into a container.
+    // The edge of a block that begins with the record, and of one that begins 16 bytes into a container.
     edges::run_places(&mut cases, 62, 67);
-    edges::run_places(&mut cases, 94, 100);
+    edges::run_places(&mut cases, 78, 84);
     calls::run_finders(&mut cases);
     calls::run_sorters(&mut cases);
     show::print_number(cases as u64);

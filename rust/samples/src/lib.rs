@@ -30,7 +30,7 @@ pub fn output() -> String {
     output.step_counts();
     output.levels();
     output.lists();
-    (62..67).chain(94..100).for_each(|place| output.edges(place));
+    (62..67).chain(78..84).for_each(|place| output.edges(place));
     output.finders();
     (61..65).for_each(|place| output.sorter(place));
     format!("{}{} cases\n", output.text, output.cases)
