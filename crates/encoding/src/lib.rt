@@ -63,7 +63,8 @@ pub struct Scan {
     pub at: usize,
 }
 
-// The number of the row, after the first, that has `b` as a first byte; the number of rows where none has.
+// The number of the row, after the first, that has `b` as a first byte; the number of rows where none has. The rows ascend: no row after
+// one that begins above `b` has it.
 fn row_of(rows: &[u8; 45], b: u8) -> usize
     requires { ⌜ RowTable (now rows) ⌝ }
     ensures { λ r. ⌜ RowOf b r ⌝ }
@@ -76,6 +77,7 @@ fn row_of(rows: &[u8; 45], b: u8) -> usize
             if rows[row * ROW_SIZE + LOW] <= b {
                 return row;
             }
+            return ROW_COUNT;
         }
     }
     r
