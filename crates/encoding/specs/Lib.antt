@@ -14,3 +14,4 @@ pub mod Utf8
 pub mod Utf8At
 pub mod Utf8Steps
 pub mod Verdict
+pub mod WideRun

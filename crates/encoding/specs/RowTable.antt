@@ -75,6 +75,14 @@ pub bytes-some : (n : ℕ) → n < 9 → 1 ≤ rowAt rows n .bytes
 unfolding has-byte rows allBelow
 bytes-some n h = leb→le 1 (rowAt rows n .bytes) (all-at 9 has-byte tt n h)
 
+-- no row begins below the one before it
+rises : ℕ → Bool
+rises n = leb (rowAt rows n .low) (rowAt rows (n + 1) .low)
+
+ascends : (n : ℕ) → n < 8 → rowAt rows n .low ≤ rowAt rows (n + 1) .low
+unfolding rises rows allBelow
+ascends n h = leb→le (rowAt rows n .low) (rowAt rows (n + 1) .low) (all-at 8 rises tt n h)
+
 -- the search for the row of a first byte, from row n on
 module _ (b : ℕ) where
   abbrev pub From : ℕ → Type 0
@@ -93,7 +101,7 @@ module _ (b : ℕ) where
   row-miss (suc n) (r ∷ rs) s h e = let z : suc n + 1 ≡ suc (n + 1) = omega arith in rw z (row-miss n rs s (omega arith) e)
 
   module _ (n : ℕ) (h : n < 9) (f : From n) where
-    pub from-under : b < rowAt rows n .low → From (n + 1)
+    from-under : b < rowAt rows n .low → From (n + 1)
     unfolding rows
     from-under l s = f s ∙ row-miss n rows s h (beneath (rowAt rows n .low) (rowAt rows n .high) b l)
 
@@ -118,3 +126,14 @@ module _ (b : ℕ) where
         found = λ z. absurd (omega arith);
         none = λ z s. f s ∙ ap (λ (m : ℕ). readBy (drop m rows) (b ∷ s)) z;
       }
+
+  -- the rows ascend, so that a byte below one of them is in none after it
+  none-after : (m n : ℕ) → n + m ≡ 9 → From n → b < rowAt rows n .low → From 9
+  unfolding rows
+  none-after zero n e f l = let z : n ≡ 9 = omega arith in rw z at f
+  none-after (suc zero) n e f l = let z : n + 1 ≡ 9 = omega arith in rw z at (from-under n (omega arith) f l)
+  none-after (suc (suc m)) n e f l =
+      none-after (suc m) (n + 1) (omega arith) (from-under n (omega arith) f l) (omega (arith, ascends n (omega arith)))
+
+  pub row-under : (n : ℕ) → n < 9 → From n → b < rowAt rows n .low → RowOf b 9
+  row-under n h f l = row-none 9 (omega arith) (omega arith) (none-after (9 - n) n (omega arith) f l)

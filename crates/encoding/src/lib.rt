@@ -1,11 +1,12 @@
 // The class of a byte, and code points by the rows of UTF-8.
 ghost use mathlib.Core.Path.{_≡_};
-ghost use Prim.Native.Nat.{_≤_};
-ghost use lib.ListN.{length};
+ghost use Prim.Native.Nat.{_≤_, _<_};
+ghost use lib.ListN.{length, getD};
 ghost use Rattle.encoding.specs.Class.{classOf};
 ghost use Rattle.encoding.specs.ClassTable.{ClassTable};
 ghost use Rattle.encoding.specs.CodePoint.{due, reading, Scanned};
 ghost use Rattle.encoding.specs.RowTable.{RowTable, RowOf};
+ghost use Rattle.encoding.specs.WideRun.{WideRun};
 
 mod tables;
 
@@ -29,6 +30,9 @@ const BYTES: usize = 4;
 const TAIL_LOW: u8 = 0x80;
 
 const TAIL_HIGH: u8 = 0xBF;
+
+// The least byte that is no code point of its own.
+const WIDE: u8 = 0x80;
 
 // The table of classes, to be fetched once and lent down.
 pub fn classes() -> [u8; 256]
@@ -59,7 +63,8 @@ pub struct Scan {
     pub at: usize,
 }
 
-// The number of the row, after the first, that has `b` as a first byte; the number of rows where none has.
+// The number of the row, after the first, that has `b` as a first byte; the number of rows where none has. The rows ascend: no row after
+// one that begins above `b` has it.
 fn row_of(rows: &[u8; 45], b: u8) -> usize
     requires { ⌜ RowTable (now rows) ⌝ }
     ensures { λ r. ⌜ RowOf b r ⌝ }
@@ -72,6 +77,7 @@ fn row_of(rows: &[u8; 45], b: u8) -> usize
             if rows[row * ROW_SIZE + LOW] <= b {
                 return row;
             }
+            return ROW_COUNT;
         }
     }
     r
@@ -104,6 +110,17 @@ fn rest_of(s: &[u8], from: usize, low: u8, high: u8, count: u8) -> Scan
     Scan { ok: true, at: i }
 }
 
+// Reads a code point at `at` by row number `row`, which has the byte there as a first byte.
+fn after_row(rows: &[u8; 45], s: &[u8], at: usize, row: usize) -> Scan
+    requires { ⌜ RowTable (now rows) × (at < length (now s)) × RowOf (getD (now s) at 0) row × (row < 9) ⌝ }
+    ensures { λ r. ⌜ Scanned reading (now (s .entry)) at (r .ok) (r .at) ⌝ }
+{
+    let low = rows[row * ROW_SIZE + SECOND_LOW];
+    let high = rows[row * ROW_SIZE + SECOND_HIGH];
+    let bytes = rows[row * ROW_SIZE + BYTES];
+    rest_of(s, at + 1, low, high, bytes - 1)
+}
+
 // Reads one code point from 80 (hexadecimal) on at `at`, by the rows of UTF-8. Any byte may stand there.
 pub fn code_point(rows: &[u8; 45], s: &[u8], at: usize) -> Scan
     requires { ⌜ RowTable (now rows) ⌝ }
@@ -116,8 +133,29 @@ pub fn code_point(rows: &[u8; 45], s: &[u8], at: usize) -> Scan
     if row == ROW_COUNT {
         return Scan { ok: false, at };
     }
-    let low = rows[row * ROW_SIZE + SECOND_LOW];
-    let high = rows[row * ROW_SIZE + SECOND_HIGH];
-    let bytes = rows[row * ROW_SIZE + BYTES];
-    rest_of(s, at + 1, low, high, bytes - 1)
+    after_row(rows, s, at, row)
+}
+
+// Reads the code points from 80 (hexadecimal) on that stand one after another from `at` on, by the rows of UTF-8: ok and the place of the
+// first byte below 80, or the length; or not ok and the place of the first byte that is wrong.
+pub fn code_points(rows: &[u8; 45], s: &[u8], at: usize) -> Scan
+    requires { ⌜ RowTable (now rows) ⌝ }
+    ensures { λ r. ⌜ WideRun (now (s .entry)) at (r .ok) (r .at) ⌝ }
+{
+    let mut i = at;
+    while i < s.len() {
+        if s[i] < WIDE {
+            return Scan { ok: true, at: i };
+        }
+        let row = row_of(rows, s[i]);
+        if row == ROW_COUNT {
+            return Scan { ok: false, at: i };
+        }
+        let point = after_row(rows, s, i, row);
+        if !point.ok {
+            return point;
+        }
+        i = point.at;
+    }
+    Scan { ok: true, at: i }
 }

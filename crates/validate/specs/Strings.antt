@@ -13,7 +13,9 @@ use Rattle.swar.specs.Run.{Passed, Run}
 use Rattle.encoding.specs.Utf8Steps as U
 use Rattle.encoding.specs.Utf8Steps.{Due, First, Next, lowest, highest}
 use Rattle.encoding.specs.Utf8At as A
-use Rattle.encoding.specs.Utf8At.{RestAt, ReadsAt, scanned-moved}
+use Rattle.encoding.specs.Utf8At.{RestAt, ReadsAt, reads-at, scanned-within}
+use Rattle.encoding.specs.WideRun as W
+use Rattle.encoding.specs.WideRun.{WideAt, WideRun, run-moved}
 use Rattle.json.specs.Room.{Room, endless}
 use Rattle.json.specs.Machine.{Ctl, inString, escaping, hexDue, tailDue, anyTail, afterE0, afterED, afterF0, afterF4, closed, Stack, State, at, dead, Rule, one, span, hexRules, rules, step, final}
 use Rattle.json.specs.Steps.{Picks, inside, past, nowhere, landing, step-range, step-by}
@@ -34,7 +36,7 @@ pub data HexDigit (b : ℕ) : Bool → Type 0 where
   middle : 0x46 < b → b < 0x61 → HexDigit b false
   above : 0x66 < b → HexDigit b false
 
--- one character of a string is read from place i on
+-- characters of a string are read from place i on
 pub record Character (s : List ℕ) (i : ℕ) (ok : Bool) (r : ℕ) : Type 0 where
   pub moved : ok ≡ true → i < r
   pub led : (f : Bool) → Led s i (inString f) (inString f) ok r
@@ -199,15 +201,27 @@ led-tails f p (A.last h l u) = led-go p (inString f) h (λ k ρ. last-step f k �
 led-tails f p (A.next {e = e} n h l u q) = led-tails f (led-go p (tails e f) h (λ k ρ. next-step f k ρ n l u)) q
 
 -- a code point from 80 on is read where a byte from 80 on stands
-pub wide-character : {s : List ℕ} {i : ℕ} {ok : Bool} {r : ℕ} → 0x80 ≤ getD s i 0 → i < length s → ReadsAt s i ok r → Character s i ok r
-wide-character {s} {i} g h q = record { moved = λ e. scanned-moved q e; led = λ f. by f q }
+point-led : {s : List ℕ} {i : ℕ} {ok : Bool} {r : ℕ} (f : Bool) → WideAt s i → ReadsAt s i ok r → Led s i (inString f) (inString f) ok r
+point-led {s} {i} f w q = by q
   where
-    by : (f : Bool) {ok : Bool} {r : ℕ} → ReadsAt s i ok r → Led s i (inString f) (inString f) ok r
-    by f (A.cut l) = absurd (omega arith)
-    by f (A.too-low l u) = led-die (led-here s i (inString f) (omega arith)) (inString f) h (λ k. too-low-dead f k endless g u)
-    by f (A.too-high l u) = led-die (led-here s i (inString f) (omega arith)) (inString f) h (λ k. too-high-dead f k endless u)
-    by f (A.first {d} l x t) =
-        led-tails f (led-go (led-here s i (inString f) (omega arith)) (tails d f) h (λ k ρ. first-step f k ρ x)) t
+    start : Led s i (inString f) (inString f) true i
+    start = led-here s i (inString f) (omega (arith, w .inside))
+
+    by : {ok : Bool} {r : ℕ} → ReadsAt s i ok r → Led s i (inString f) (inString f) ok r
+    by (A.cut l) = absurd (omega (arith, w .inside))
+    by (A.too-low l u) = led-die start (inString f) l (λ k. too-low-dead f k endless (w .from-80) u)
+    by (A.too-high l u) = led-die start (inString f) l (λ k. too-high-dead f k endless u)
+    by (A.first {d} l x t) = led-tails f (led-go start (tails d f) l (λ k ρ. first-step f k ρ x)) t
+
+-- and so are those after it
+run-led : {s : List ℕ} {i : ℕ} {ok : Bool} {r : ℕ} (f : Bool) → i ≤ length s → WideRun s i ok r → Led s i (inString f) (inString f) ok r
+run-led {s} {i} f h (W.over l) = led-here s i (inString f) h
+run-led {s} {i} f h (W.narrow l) = led-here s i (inString f) h
+run-led f h (W.broken w p) = point-led f w (reads-at p)
+run-led f h (W.more w p q) = led-on (point-led f w (reads-at p)) (run-led f (scanned-within p h) q)
+
+pub wide-characters : {s : List ℕ} {i : ℕ} {ok : Bool} {r : ℕ} → WideAt s i → WideRun s i ok r → Character s i ok r
+wide-characters w q = record { moved = λ e. run-moved q w e; led = λ f. run-led f (omega (arith, w .inside)) q }
 
 -- an escape, and a byte that no string has
 module _ {s : List ℕ} {i : ℕ} (h : i < length s) where
@@ -240,7 +254,7 @@ module _ {s : List ℕ} {a : ℕ} {c : Ctl} {f : Bool} {i : ℕ} (p : Led s a c 
   pub string-open : length s ≤ i → Led s a c (closed f) false i
   string-open h = led-end p (closed f) h refl
 
-  -- one character more
+  -- more characters
   pub string-on : {ok : Bool} {r : ℕ} → Character s i ok r → ok ≡ true → Led s a c (inString f) true r
   string-on x e = led-on p (rw e at (x .led f))
 

@@ -6,8 +6,6 @@ ghost use Prim.Native.Nat.{_≤_, _<_};
 ghost use lib.ListN.{length, getD};
 ghost use Rattle.encoding.specs.RowTable.{RowTable};
 ghost use Rattle.swar.specs.KindLaws.{NotPlain};
-ghost use Rattle.swar.specs.Kinds.{plain};
-ghost use Rattle.swar.specs.Run.{Run};
 ghost use Rattle.json.specs.Machine.{inString, escaping, hexDue, closed};
 ghost use Rattle.json.specs.Led.{Led};
 ghost use Rattle.validate.specs.Among.{Among};
@@ -122,32 +120,18 @@ fn escape_end(s: &[u8], at: usize) -> Scan
     hex_end(s, at + 1)
 }
 
-// Reads one character that is not a plain byte nor the closing quote: an escape or a code point from 80 (hexadecimal) on.
+// Reads what is not a plain byte nor the closing quote: one escape, or the code points from 80 (hexadecimal) on that stand there.
 fn character_end(s: &[u8], rows: &[u8; 45], at: usize) -> Scan
     requires { ⌜ RowTable (now rows) × (at < length (now s)) × NotPlain (getD (now s) at 0) × (getD (now s) at 0 ≡ 0x22 → ⊥) ⌝ }
     ensures { λ r. ⌜ Character (now (s .entry)) at (r .ok) (r .at) ⌝ }
 {
     if s[at] >= WIDE {
-        return encoding::code_point(rows, s, at);
+        return encoding::code_points(rows, s, at);
     }
     if s[at] == BACKSLASH {
         return escape_end(s, at + 1);
     }
     Scan { ok: false, at }
-}
-
-// The end of the plain bytes from `at` on: at once where a code point from 80 (hexadecimal) on stands there.
-fn plain_end(s: &[u8], at: usize) -> usize
-    requires { ⌜ at ≤ length (now s) ⌝ }
-    ensures { λ r. ⌜ Run plain (now (s .entry)) at r ⌝ }
-{
-    if at >= s.len() {
-        return at;
-    }
-    if s[at] >= WIDE {
-        return at;
-    }
-    swar::plain_run(s, at)
 }
 
 // Reads a string from what follows its opening quote up to the place after its closing quote.
@@ -168,7 +152,7 @@ pub fn string_end(s: &[u8], rows: &[u8; 45], from: usize) -> Scan
         if !character.ok {
             return Scan { ok: false, at };
         }
-        i = plain_end(s, at);
+        i = swar::plain_run(s, at);
     }
     Scan { ok: false, at: i }
 }

@@ -2,7 +2,7 @@
 -- none of those before. Assumes nothing.
 use Prim.Native.Nat.{_≤_, _-_}
 use native.Mathlib.Omega.{arith}
-use Rattle.encoding.specs.RowTable.{From, from-start, from-under, from-over, row-found, row-none, low-at, high-at}
+use Rattle.encoding.specs.RowTable.{From, from-start, from-over, row-found, row-under, row-none, low-at, high-at}
 use borrow.Author.Needs.{needs}
 use Rattle.encoding.proofs.row_of.Statement.{statement}
 use Rattle.encoding.proofs.row_of.Tie as tie
@@ -46,24 +46,18 @@ returns c =
     row-found (at .before .before .args .b) row below (at .before .loop .inv .2)
     (omega (arith, low-at table row below)) (omega (arith, high-at table row below))
 
+returns-2 : tie.Need-returns-2 Inv-loop μ-loop
+returns-2 c =
+    let at = c .before .before .before .before in
+    let row = at .before .loop .r in
+    let below = at .loop-test .taken in
+    row-under (at .before .before .args .b) row below (at .before .loop .inv .2) (omega (arith, low-at (at .before .before .pre) row below))
+
 loop-less : tie.Need-loop-less Inv-loop μ-loop
 loop-less c = search needs
 
 loop-again : tie.Need-loop-again Inv-loop μ-loop
 loop-again c =
-    let at = c .before .before .before .before in
-    let row = at .before .loop .r in
-    let below = at .loop-test .taken in (
-      omega arith,
-      omega arith,
-      from-under (at .before .before .args .b) row below (at .before .loop .inv .2) (omega (arith, low-at (at .before .before .pre) row below)),
-    )
-
-loop-less-2 : tie.Need-loop-less-2 Inv-loop μ-loop
-loop-less-2 c = search needs
-
-loop-again-2 : tie.Need-loop-again-2 Inv-loop μ-loop
-loop-again-2 c =
     let at = c .before .before in
     let row = at .before .loop .r in
     let below = at .loop-test .taken in (
@@ -72,8 +66,8 @@ loop-again-2 c =
       from-over (at .before .before .args .b) row below (at .before .loop .inv .2) (omega (arith, high-at (at .before .before .pre) row below)),
     )
 
-returns-2 : tie.Need-returns-2 Inv-loop μ-loop
-returns-2 c = row-none (c .before .before .args .b) (c .before .loop .r) (c .loop-test .left) (omega arith) (c .before .loop .inv .2)
+returns-3 : tie.Need-returns-3 Inv-loop μ-loop
+returns-3 c = row-none (c .before .before .args .b) (c .before .loop .r) (c .loop-test .left) (omega arith) (c .before .loop .inv .2)
 
 pub row-of-spec : {M : Type 1} → statement M
 row-of-spec =
@@ -90,8 +84,7 @@ row-of-spec =
     add-if2
     element-copy-out-if2
     returns
+    returns-2
     loop-less
     loop-again
-    loop-less-2
-    loop-again-2
-    returns-2)
+    returns-3)

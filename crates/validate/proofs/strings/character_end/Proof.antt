@@ -1,7 +1,6 @@
--- `validate::strings::character_end` meets its contract: by the reading of a code point, by that of an escape, or at a control byte.
+-- `validate::strings::character_end` meets its contract: by the reading of code points, by that of an escape, or at a control byte.
 -- Assumes nothing.
-use Rattle.encoding.specs.Utf8At.{reads-at}
-use Rattle.validate.specs.Strings.{wide-character, escaped-character, wrong-character}
+use Rattle.validate.specs.Strings.{wide-characters, escaped-character, wrong-character}
 use borrow.Author.Needs.{needs}
 use Rattle.validate.proofs.strings.character_end.Statement.{statement}
 use Rattle.validate.proofs.strings.character_end.Tie as tie
@@ -9,11 +8,12 @@ use Rattle.validate.proofs.strings.character_end.Tie as tie
 shared-slice-read-if1 : tie.Need-shared-slice-read-if1
 shared-slice-read-if1 c = search needs
 
-code-point-requires : tie.Need-code-point-requires
-code-point-requires c κs = search needs
+code-points-requires : tie.Need-code-points-requires
+code-points-requires c κs = search needs
 
 returns : tie.Need-returns
-returns c = wide-character (c .before .if1 .taken) (c .before .before .before .before .pre .1) (reads-at (c .code-point .ensures))
+returns c =
+    wide-characters (record { inside = c .before .before .before .before .pre .1; from-80 = c .before .if1 .taken }) (c .code-points .ensures)
 
 shared-slice-read-if2 : tie.Need-shared-slice-read-if2
 shared-slice-read-if2 c = search needs
@@ -35,7 +35,7 @@ character-end-spec =
     tie.close
     (tie.spec
     shared-slice-read-if1
-    code-point-requires
+    code-points-requires
     returns
     shared-slice-read-if2
     add-escape-end

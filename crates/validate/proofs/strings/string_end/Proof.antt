@@ -43,14 +43,14 @@ character-end-requires c κs = (c .before .before .before .before .before .befor
 returns-2 : tie.Need-returns-2 Inv-loop μ-loop
 returns-2 c = λ f. string-wrong (c .before .before .before .before .before .before .loop .inv .0 f) (c .before .before .character-end .ensures) (not-true _ (c .if2 .taken))
 
-plain-end-requires : tie.Need-plain-end-requires Inv-loop μ-loop
-plain-end-requires c κs = c .before .before .character-end .ensures .led true .within
+plain-run-requires-2 : tie.Need-plain-run-requires-2 Inv-loop μ-loop
+plain-run-requires-2 c κs = c .before .before .character-end .ensures .led true .within
 
 loop-less : tie.Need-loop-less Inv-loop μ-loop
-loop-less c = omega (arith, c .before .before .before .character-end .ensures .moved (not-false _ (c .before .if2 .left)), c .plain-end .ensures .passed .forward)
+loop-less c = omega (arith, c .before .before .before .character-end .ensures .moved (not-false _ (c .before .if2 .left)), c .plain-run2 .ensures .passed .forward)
 
 loop-again : tie.Need-loop-again Inv-loop μ-loop
-loop-again c = (λ f. led-plain (string-on (c .before .before .before .before .before .before .before .loop .inv .0 f) (c .before .before .before .character-end .ensures) (not-false _ (c .before .if2 .left))) (c .plain-end .ensures .passed), c .plain-end .ensures .stop)
+loop-again c = (λ f. led-plain (string-on (c .before .before .before .before .before .before .before .loop .inv .0 f) (c .before .before .before .character-end .ensures) (not-false _ (c .before .if2 .left))) (c .plain-run2 .ensures .passed), c .plain-run2 .ensures .stop)
 
 returns-3 : tie.Need-returns-3 Inv-loop μ-loop
 returns-3 c = λ f. string-open (c .before .loop .inv .0 f) (c .loop-test .left)
@@ -68,7 +68,7 @@ string-end-spec =
     returns
     character-end-requires
     returns-2
-    plain-end-requires
+    plain-run-requires-2
     loop-less
     loop-again
     returns-3)
