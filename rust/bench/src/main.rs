@@ -122,53 +122,60 @@ fn round(
     Ok(())
 }
 
-/// Measures all jobs, the engines in turn.
+/// Measures all jobs, the engines in turn; with a query that asks for the root alone also the parts.
 fn measure(
     jobs: &'static [Job],
     engines: &[Engine],
     records: &[Record],
     effort: Effort,
     rounds: u32,
-) -> Result<Vec<Measured>, String> {
-    let mut all = Vec::new();
+) -> Result<(Vec<Measured>, Vec<Parts>), String> {
+    let (mut all, mut parts) = (Vec::new(), Vec::new());
     for job in jobs {
         let record = records.iter().find(|record| record.name == job.record);
         let record = record.expect("each job names a record");
         let times = engines.iter().map(|_| Ok(f64::INFINITY)).collect();
         let mut measured = Measured { job, bytes: record.bytes.len(), nodes: 0, times };
         let mut list = vec![0; record.bytes.len() + 1];
+        let longer = refused_at_its_end(record)?;
+        let mut of_record =
+            Parts { record: record.name, check: f64::INFINITY, find: f64::INFINITY };
         for _ in 0..rounds {
             round(&mut measured, engines, record, effort, &mut list)?;
+            if job.steps.is_empty() {
+                parts_round(&mut of_record, &record.bytes, &longer);
+            }
+        }
+        if job.steps.is_empty() {
+            parts.push(of_record);
         }
         eprintln!("{} {}: {} nodes", job.record, job.query(), measured.nodes);
         all.push(measured);
     }
-    Ok(all)
+    Ok((all, parts))
 }
 
-/// The check alone and the value finder, on each large record.
-fn parts(records: &[Record], rounds: u32) -> Result<Vec<Parts>, String> {
-    let mut all = Vec::new();
-    for Record { name, bytes, .. } in records.iter().filter(|record| record.name != "short") {
-        let longer = [bytes.as_slice(), b"!"].concat();
-        let refusal = Walk::Jumping.list_into(b"$", &longer, &mut []);
-        let at_its_end = (Ground::RecordMalformed, bytes.len());
-        if refusal.map_err(|refusal| (refusal.ground, refusal.place)) != Err(at_its_end) {
-            return Err(format!("{name} with a byte too many is not refused at its end"));
-        }
-        let mut parts = Parts { record: name, check: f64::INFINITY, find: f64::INFINITY };
-        for _ in 0..rounds {
-            let check = clock::best(EFFORT, || {
-                let _ = black_box(Walk::Jumping.list_into(b"$", &longer, &mut []));
-            });
-            let find = clock::best(EFFORT, || {
-                let _ = black_box(find_value(bytes, 0));
-            });
-            (parts.check, parts.find) = (parts.check.min(check), parts.find.min(find));
-        }
-        all.push(parts);
+/// The record with one byte too many at its end, which the library has to refuse there, after it has
+/// checked all the others.
+fn refused_at_its_end(record: &Record) -> Result<Vec<u8>, String> {
+    let longer = [record.bytes.as_slice(), b"!"].concat();
+    let refusal = Walk::Jumping.list_into(b"$", &longer, &mut []);
+    let at_its_end = (Ground::RecordMalformed, record.bytes.len());
+    match refusal.map_err(|refusal| (refusal.ground, refusal.place)) {
+        Err(refusal) if refusal == at_its_end => Ok(longer),
+        _ => Err(format!("{} with a byte too many is not refused at its end", record.name)),
     }
-    Ok(all)
+}
+
+/// One round of the check alone and of the value finder; each keeps its best time.
+fn parts_round(parts: &mut Parts, record: &[u8], longer: &[u8]) {
+    let check = clock::best(EFFORT, || {
+        let _ = black_box(Walk::Jumping.list_into(b"$", longer, &mut []));
+    });
+    let find = clock::best(EFFORT, || {
+        let _ = black_box(find_value(record, 0));
+    });
+    (parts.check, parts.find) = (parts.check.min(check), parts.find.min(find));
 }
 
 /// What the comparison prints of the stack of each call at 512 levels.
@@ -195,9 +202,9 @@ fn run(options: &Options) -> Result<(), String> {
     }
     let records = records(options.size, &folder)?;
     let rounds = options.rounds;
-    let large = measure(&JOBS, &engines, &records, EFFORT, rounds)?;
-    let short = measure(&SHORT_JOBS, &engines, &records, SHORT_EFFORT, rounds)?;
-    let (parts, stack) = (parts(&records, rounds)?, stack()?);
+    let (large, parts) = measure(&JOBS, &engines, &records, EFFORT, rounds)?;
+    let (short, _) = measure(&SHORT_JOBS, &engines, &records, SHORT_EFFORT, rounds)?;
+    let stack = stack()?;
     let results = Results { engines, left_out, large, short, parts, stack, rounds };
     for (name, text) in
         [("BENCHMARK.md", page::page(&results)), ("benchmark.svg", picture::picture(&results))]

@@ -19,7 +19,7 @@ pub fn page(results: &Results) -> String {
         ("{summary}", summary(results)),
         ("{records}", records(results)),
         ("{walks}", walks(results)),
-        ("{finder}", finder(results)),
+        ("{checks}", checks(results)),
         ("{short}", times(&results.short.iter().collect::<Vec<_>>(), results, MICRO)),
         ("{stack}", stack(results)),
     ];
@@ -210,14 +210,35 @@ fn walks(results: &Results) -> String {
     table(&head, &rows)
 }
 
-/// The value finder at the root, which also finds the end of the whole record.
-fn finder(results: &Results) -> String {
-    let row = |parts: &Parts| {
-        let times = [parts.check, parts.find].map(|time| figures(time / MILLI));
-        [vec![parts.record.to_string()], times.to_vec()].concat()
+/// The check and the value finder at the root, and how the peers compare with the check where a query
+/// asks for nothing else.
+fn checks(results: &Results) -> String {
+    let mut head = vec!["engine".to_string()];
+    head.extend(results.parts.iter().map(|parts| parts.record.to_string()));
+    let row = |name: &str, of: &dyn Fn(&Parts) -> String| {
+        let figures = results.parts.iter().map(of);
+        [name.to_string()].into_iter().chain(figures).collect::<Vec<String>>()
     };
-    let rows: Vec<Vec<String>> = results.parts.iter().map(row).collect();
-    table(&strings(["record", "check", "value finder at the root"]), &rows)
+    let mut rows = vec![
+        row("the check", &|parts| figures(parts.check / MILLI)),
+        row("the value finder", &|parts| figures(parts.find / MILLI)),
+    ];
+    let engines = results.engines.iter().enumerate();
+    for (at, engine) in engines.filter(|(_, engine)| !engine.is_library()) {
+        rows.push(row(engine.name, &|parts| {
+            let asks_nothing = |measured: &&Measured| {
+                measured.job.record == parts.record && measured.job.steps.is_empty()
+            };
+            let measured = results.large.iter().find(asks_nothing);
+            match measured.map(|measured| &measured.times[at]) {
+                Some(Ok(time)) => {
+                    format!("{} ({})", figures(time / MILLI), figures(time / parts.check))
+                }
+                _ => "–".to_string(),
+            }
+        }));
+    }
+    table(&head, &rows)
 }
 
 /// The lines of the measurement of stacks, as a table.
