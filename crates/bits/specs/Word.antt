@@ -1,14 +1,16 @@
 -- The number that has given bytes, the lowest first: its bits, and the machine's operations byte by byte. Assumes nothing.
 use mathlib.Core.Path.{_≡_, refl, sym, ap, ap₂, _∙_}
-use mathlib.Core.Bool.{true}
+use mathlib.Core.Bool.{Bool, true, false}
 use mathlib.Core.List.{List}
 use mathlib.Core.Logic.{⊎-elim}
 use Prim.Native.Nat.{ℕ, zero, suc, _+_, _-_, _*_, _/_, _%_, _^_, _<_, _≤_}
 use native.Mathlib.Nat.{mod-eq-of-lt, suc-add, zero-add, add-assoc, mul-assoc}
 use native.Mathlib.Omega.{arith}
+use lib.Dec.{ltb}
 use lib.Bits.{bitAnd, bitOr, bitXor, and-block, or-block, xor-block}
 use lib.ListN.{getD}
 use lib.Pow.{pow-add}
+use borrow.Author.Tests.{ltb-true, ltb-false, le-ltb}
 use Rattle.bits.specs.Bits.{bit, Lowest}
 use Rattle.bits.specs.Laws.{lt-or-ge, bit-zero, bit-mod, bit-shr, bit-ext}
 
@@ -92,14 +94,58 @@ module _ (s : List ℕ) (small : (k : ℕ) → getD s k 0 < 256) (i : ℕ) where
 
 -- ---- operations byte by byte
 
--- a sum without carries from byte to byte, where each sum of two bytes is a byte
-pub word-add : (n : ℕ) (b d : ℕ → ℕ) → ((k : ℕ) → b k + d k < 256) → (word n b + word n d) % 2 ^ (8 * n) ≡ word n (λ k. b k + d k)
-unfolding word
-word-add n b d small = ap (λ (x : ℕ). x % 2 ^ (8 * n)) (sums n b d) ∙ mod-eq-of-lt (word-lt n (λ k. b k + d k) small)
+-- the difference of two words, lowest byte first, where c is borrowed from the lowest: what is borrowed from byte k, and byte k
+unfoldable pub borrowed : ℕ → (ℕ → ℕ) → (ℕ → ℕ) → ℕ → ℕ
+borrowed c x y zero = c
+borrowed c x y (suc k) = borrowed (elim (ltb (x 0) (y 0 + c)) [ true ↦ 1 | false ↦ 0 ]) (λ j. x (suc j)) (λ j. y (suc j)) k
+
+unfoldable pub difference : ℕ → (ℕ → ℕ) → (ℕ → ℕ) → ℕ → ℕ
+unfolding borrowed
+difference c x y k = (x k + 256 - (y k + borrowed c x y k)) % 256
+
+pub difference-byte : (c : ℕ) (x y : ℕ → ℕ) (k : ℕ) → difference c x y k < 256
+unfolding difference
+difference-byte c x y k = omega arith
+
+-- with what it borrows from the next, a byte makes up for the difference
+lowest-difference :
+    (a b c : ℕ) → a < 256 → b < 256 → c ≤ 1 → (t : Bool) → ltb a (b + c) ≡ t →
+    ((a + 256 - (b + c)) % 256 + b + c ≡ a + 256 * elim t [ true ↦ 1 | false ↦ 0 ]) × (elim t [ true ↦ 1 | false ↦ 0 ] ≤ 1)
+lowest-difference a b c h l m true e = let z = ltb-true a (b + c) e in (omega arith, omega arith)
+lowest-difference a b c h l m false e = let z = ltb-false a (b + c) e in (omega arith, omega arith)
+
+-- the bytes of the difference are those of the number that makes up for it, up to what is borrowed at the end
+differences :
+    (n c : ℕ) (x y : ℕ → ℕ) → c ≤ 1 → ((k : ℕ) → x k < 256) → ((k : ℕ) → y k < 256) →
+    (word n (difference c x y) + word n y + c ≡ word n x + borrowed c x y n * 2 ^ (8 * n)) × (borrowed c x y n ≤ 1)
+unfolding word borrowed difference
+differences zero c x y m h l = (omega arith, m)
+differences (suc n) c x y m h l =
+    let d : ℕ = elim (ltb (x 0) (y 0 + c)) [ true ↦ 1 | false ↦ 0 ] in
+    let low = lowest-difference (x 0) (y 0) c (h 0) (l 0) m (ltb (x 0) (y 0 + c)) refl in
+    let r = differences n d (λ k. x (suc k)) (λ k. y (suc k)) (low .1) (λ k. h (suc k)) (λ k. l (suc k)) in
+    let top : ℕ = borrowed d (λ k. x (suc k)) (λ k. y (suc k)) n in
+    let p : top * 2 ^ (8 * suc n) ≡ top * 2 ^ (8 * n) * 256 = ap (λ (z : ℕ). top * z) (byte-more n) ∙ sym (mul-assoc top (2 ^ (8 * n)) 256) in
+    (omega (arith, r .0, low .0), r .1)
+
+-- a difference of two words of eight bytes, wrapped
+pub word-less :
+    (x y : ℕ → ℕ) → ((k : ℕ) → x k < 256) → ((k : ℕ) → y k < 256) →
+    (word 8 x + 2 ^ 64 - word 8 y) % 2 ^ 64 ≡ word 8 (difference 0 x y)
+word-less x y h l =
+    let d = differences 8 0 x y (omega arith) h l in
+    omega (arith, d .0, d .1, word-lt 8 x h, word-lt 8 y l, word-lt 8 (difference 0 x y) (difference-byte 0 x y))
+
+-- a byte is the difference of its two bytes where no byte before it borrows
+pub difference-kept : (x y : ℕ → ℕ) (k : ℕ) → ((j : ℕ) → j < k → y j ≤ x j) → difference 0 x y k ≡ (x k + 256 - y k) % 256
+unfolding difference borrowed
+difference-kept x y k h = omega (arith, none x y k h)
   where
-    sums : (n : ℕ) (b d : ℕ → ℕ) → word n b + word n d ≡ word n (λ k. b k + d k)
-    sums zero b d = refl
-    sums (suc n) b d = omega (arith, sums n (λ k. b (suc k)) (λ k. d (suc k)))
+    none : (x y : ℕ → ℕ) (k : ℕ) → ((j : ℕ) → j < k → y j ≤ x j) → borrowed 0 x y k ≡ 0
+    none x y zero h = refl
+    none x y (suc k) h =
+        let e : ltb (x 0) (y 0 + 0) ≡ false = le-ltb (x 0) (y 0 + 0) (omega (arith, h 0 (omega arith))) in
+        rw e (none (λ j. x (suc j)) (λ j. y (suc j)) k (λ j l. h (suc j) (omega arith)))
 
 pub word-and : (n : ℕ) (b d : ℕ → ℕ) → ((k : ℕ) → b k < 256) → ((k : ℕ) → d k < 256) → bitAnd (word n b) (word n d) ≡ word n (λ k. bitAnd (b k) (d k))
 unfolding word

@@ -1,5 +1,5 @@
 // Runs of bytes of one kind, eight bytes at a time.
-ghost use Prim.Native.Nat.{_+_, _≤_};
+ghost use Prim.Native.Nat.{_+_, _-_, _%_, _^_, _≤_};
 ghost use mathlib.Core.Path.{_≡_};
 ghost use lib.ListN.{length};
 ghost use Rattle.swar.specs.Kinds.{plain, body, blank, spaceByte, inner, stringKind};
@@ -20,6 +20,13 @@ const CARRIAGE_RETURN: u8 = 0x0D;
 
 // Eight spaces.
 const SPACES: u64 = 0x2020202020202020;
+
+// The number 1 in each of eight bytes, the highest bit of each, and all bits.
+const EACH: u64 = 0x0101010101010101;
+
+const HIGHEST: u64 = 0x8080808080808080;
+
+const ALL: u64 = 0xffffffffffffffff;
 
 // Whether `b` is a plain byte of a string, or, where `strict` is false, neither quote nor backslash.
 fn in_string(b: u8, strict: bool) -> bool
@@ -43,40 +50,42 @@ fn in_string(b: u8, strict: bool) -> bool
     true
 }
 
-// Of eight bytes, those that are neither quote nor backslash come back as 0, and the others not.
+// `x` less `m`, wrapped.
+fn minus(x: u64, m: u64) -> u64
+    ensures { λ r. ⌜ r ≡ (x + 2 ^ 64 - m) % 2 ^ 64 ⌝ }
+{
+    std::num::wrapping_sub_u64(x, m)
+}
+
+// Of eight bytes, those before the first quote or backslash come back as 0, and that one not.
 fn body_stops(x: u64) -> u64
     ensures { λ r. ⌜ Stops body x r ⌝ }
 {
-    let q = x ^ 0x2222222222222222;
-    let b = x ^ 0x5c5c5c5c5c5c5c5c;
-    let other = std::num::wrapping_add_u64(q & 0x7f7f7f7f7f7f7f7f, 0x7f7f7f7f7f7f7f7f) | q;
-    let plain = std::num::wrapping_add_u64(b & 0x7f7f7f7f7f7f7f7f, 0x7f7f7f7f7f7f7f7f) | b;
-    ((other & plain) ^ 0xffffffffffffffff) & 0x8080808080808080
+    let quote = minus(x ^ 0x2222222222222222, EACH);
+    let backslash = minus(x ^ 0x5c5c5c5c5c5c5c5c, EACH);
+    (quote | backslash) & (x ^ ALL) & HIGHEST
 }
 
-// Of eight bytes, those that are plain in a string come back as 0, and the others not.
+// Of eight bytes, those before the first that is not plain in a string come back as 0, and that one not.
 fn plain_stops(x: u64) -> u64
     ensures { λ r. ⌜ Stops plain x r ⌝ }
 {
-    let l = x & 0x7f7f7f7f7f7f7f7f;
-    let from = std::num::wrapping_add_u64(l, 0x6060606060606060);
-    let other = std::num::wrapping_add_u64(l ^ 0x2222222222222222, 0x7f7f7f7f7f7f7f7f);
-    let plain = std::num::wrapping_add_u64(l ^ 0x5c5c5c5c5c5c5c5c, 0x7f7f7f7f7f7f7f7f);
-    ((from & other & plain ^ 0xffffffffffffffff) | x) & 0x8080808080808080
+    let quote = minus(x ^ 0x2222222222222222, EACH);
+    let backslash = minus(x ^ 0x5c5c5c5c5c5c5c5c, EACH);
+    let control = minus(x, 0x2020202020202020);
+    (quote | backslash | control | x) & HIGHEST
 }
 
-// Of eight bytes, those from 2D on that are no closing bracket come back as 0, and the others not.
+// Of eight bytes, those before the first below 2D or closing bracket come back as 0, and that one not.
 fn inner_stops(x: u64) -> u64
     ensures { λ r. ⌜ Stops inner x r ⌝ }
 {
-    let l = x & 0x7f7f7f7f7f7f7f7f;
-    let from = std::num::wrapping_add_u64(l, 0x5353535353535353);
-    let bracket = (l | 0x2020202020202020) ^ 0x7d7d7d7d7d7d7d7d;
-    let other = std::num::wrapping_add_u64(bracket, 0x7f7f7f7f7f7f7f7f);
-    (((from & other) | x) & 0x8080808080808080) ^ 0x8080808080808080
+    let below = minus(x, 0x2d2d2d2d2d2d2d2d);
+    let bracket = minus((x | 0x2020202020202020) ^ 0x7d7d7d7d7d7d7d7d, EACH);
+    (below | bracket) & (x ^ ALL) & HIGHEST
 }
 
-// Of eight bytes, those of the kind come back as 0, and the others not.
+// Of eight bytes, those before the first that is not of the kind come back as 0, and that one not.
 fn stops(x: u64, strict: bool) -> u64
     ensures { λ r. ⌜ Stops (stringKind strict) x r ⌝ }
 {

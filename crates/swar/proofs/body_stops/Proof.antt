@@ -1,30 +1,31 @@
--- `swar::body_stops` meets its contract. On one byte: what differs from a quote has a bit, and so reaches 80 by adding 7F to its lowest seven
--- bits or has 80 itself; the same for a backslash. All 256 bytes are tried, and the operations on the word are those on each byte.
--- Assumes nothing.
+-- `swar::body_stops` meets its contract. On one byte below 80: the difference to a quote less 1 has the highest bit at a quote alone, and so for a backslash.
+-- No other byte borrows from the next.
+-- All 256 bytes are tried. Assumes nothing.
+use Prim.Native.Nat.{ℕ}
 use borrow.Author.Needs.{needs}
 use Rattle.bits.specs.Truth.{allBelow}
 use Rattle.swar.specs.Kinds.{body}
-use Rattle.swar.specs.Lanes.{Lane, byte, same, both, and, or, xor, plus}
+use Rattle.swar.specs.Lanes.{Lane, byte, same, both, and, or, xor, minus}
 use Rattle.swar.specs.Stops.{marksKind, by-lane}
 use Rattle.swar.proofs.body_stops.Statement.{statement}
 use Rattle.swar.proofs.body_stops.Tie as tie
 
--- 80 where the byte is another
-abbrev other : Lane → Lane
-other d = both or (both plus (both and d (same 0x7F)) (same 0x7F)) d
+-- 80 at the byte m, and at no other below 80
+abbrev at : ℕ → Lane
+at m = both minus (both xor byte (same m)) (same 0x01)
 
 abbrev lane : Lane
-lane = both and (both xor (both and (other (both xor byte (same 0x22))) (other (both xor byte (same 0x5C)))) (same 0xFF)) (same 0x80)
+lane = both and (both and (both or (at 0x22) (at 0x5C)) (both xor byte (same 0xFF))) (same 0x80)
 
-wrapping-add-u64-requires : tie.Need-wrapping-add-u64-requires
-wrapping-add-u64-requires c κs = search needs
+minus-requires : tie.Need-minus-requires
+minus-requires c κs = search needs
 
-wrapping-add-u64-requires-2 : tie.Need-wrapping-add-u64-requires-2
-wrapping-add-u64-requires-2 c κs = search needs
+minus-requires-2 : tie.Need-minus-requires-2
+minus-requires-2 c κs = search needs
 
 returns : tie.Need-returns
 unfolding allBelow marksKind body
-returns c = by-lane body lane tt (cc)
+returns c = by-lane body lane tt tt (cc)
 
 pub body-stops-spec : {M : Type 1} → statement M
-body-stops-spec = tie.close (tie.spec wrapping-add-u64-requires wrapping-add-u64-requires-2 returns)
+body-stops-spec = tie.close (tie.spec minus-requires minus-requires-2 returns)

@@ -1,33 +1,31 @@
--- `swar::inner_stops` meets its contract. On one byte: the lowest seven bits plus 53 reach 80 from 2D on; with 20 set they are 7D at a closing
--- bracket alone, and what differs from it reaches 80 by adding 7F; a byte from 80 on has that bit itself. All 256 bytes are tried, and the
--- operations on the word are those on each byte. Assumes nothing.
+-- `swar::inner_stops` meets its contract. On one byte below 80: the byte less 2D has the highest bit below 2D; with 20 set it is 7D at a closing bracket alone,
+-- and the difference to 7D less 1 has the highest bit there. No other byte borrows from the next.
+-- All 256 bytes are tried. Assumes nothing.
 use borrow.Author.Needs.{needs}
 use Rattle.bits.specs.Truth.{allBelow}
 use Rattle.swar.specs.Kinds.{inner}
-use Rattle.swar.specs.Lanes.{Lane, byte, same, both, and, or, xor, plus}
+use Rattle.swar.specs.Lanes.{Lane, byte, same, both, and, or, xor, minus}
 use Rattle.swar.specs.Stops.{marksKind, by-lane}
 use Rattle.swar.proofs.inner_stops.Statement.{statement}
 use Rattle.swar.proofs.inner_stops.Tie as tie
 
-abbrev low : Lane
-low = both and byte (same 0x7F)
-
--- 80 where the byte is no closing bracket
-abbrev other : Lane
-other = both plus (both xor (both or low (same 0x20)) (same 0x7D)) (same 0x7F)
-
 abbrev lane : Lane
-lane = both xor (both and (both or (both and (both plus low (same 0x53)) other) byte) (same 0x80)) (same 0x80)
+lane =
+    both and
+    (both and
+    (both or (both minus byte (same 0x2D)) (both minus (both xor (both or byte (same 0x20)) (same 0x7D)) (same 0x01)))
+    (both xor byte (same 0xFF)))
+    (same 0x80)
 
-wrapping-add-u64-requires : tie.Need-wrapping-add-u64-requires
-wrapping-add-u64-requires c κs = search needs
+minus-requires : tie.Need-minus-requires
+minus-requires c κs = search needs
 
-wrapping-add-u64-requires-2 : tie.Need-wrapping-add-u64-requires-2
-wrapping-add-u64-requires-2 c κs = search needs
+minus-requires-2 : tie.Need-minus-requires-2
+minus-requires-2 c κs = search needs
 
 returns : tie.Need-returns
 unfolding allBelow marksKind inner
-returns c = by-lane inner lane tt (cc)
+returns c = by-lane inner lane tt tt (cc)
 
 pub inner-stops-spec : {M : Type 1} → statement M
-inner-stops-spec = tie.close (tie.spec wrapping-add-u64-requires wrapping-add-u64-requires-2 returns)
+inner-stops-spec = tie.close (tie.spec minus-requires minus-requires-2 returns)

@@ -1,47 +1,34 @@
--- `swar::plain_stops` meets its contract. On one byte: the lowest seven bits plus 60 reach 80 from 20 on, and those of a byte that differs
--- from a quote or a backslash do so by adding 7F to the difference; the highest bit of the byte itself tells the bytes from 80 on. All 256
--- bytes are tried, and the operations on the word are those on each byte. Assumes nothing.
+-- `swar::plain_stops` meets its contract. On one byte below 80: the difference to a quote less 1 has the highest bit at a quote alone, and so for a backslash;
+-- the byte less 20 has it below 20. A byte from 80 on has it itself. No plain byte borrows from the next.
+-- All 256 bytes are tried. Assumes nothing.
+use Prim.Native.Nat.{ℕ}
 use borrow.Author.Needs.{needs}
 use Rattle.bits.specs.Truth.{allBelow}
 use Rattle.swar.specs.Kinds.{plain}
-use Rattle.swar.specs.Lanes.{Lane, byte, same, both, and, or, xor, plus}
+use Rattle.swar.specs.Lanes.{Lane, byte, same, both, and, or, xor, minus}
 use Rattle.swar.specs.Stops.{marksKind, by-lane}
 use Rattle.swar.proofs.plain_stops.Statement.{statement}
 use Rattle.swar.proofs.plain_stops.Tie as tie
 
-abbrev low : Lane
-low = both and byte (same 0x7F)
+-- 80 at the byte m, and at no other below 80
+abbrev at : ℕ → Lane
+at m = both minus (both xor byte (same m)) (same 0x01)
 
 abbrev lane : Lane
-lane =
-    both and
-    (both or
-    (both xor
-    (both and
-    (both and (both plus low (same 0x60)) (both plus (both xor low (same 0x22)) (same 0x7F)))
-    (both plus (both xor low (same 0x5C)) (same 0x7F)))
-    (same 0xFF))
-    byte)
-    (same 0x80)
+lane = both and (both or (both or (both or (at 0x22) (at 0x5C)) (both minus byte (same 0x20))) byte) (same 0x80)
 
-wrapping-add-u64-requires : tie.Need-wrapping-add-u64-requires
-wrapping-add-u64-requires c κs = search needs
+minus-requires : tie.Need-minus-requires
+minus-requires c κs = search needs
 
-wrapping-add-u64-requires-2 : tie.Need-wrapping-add-u64-requires-2
-wrapping-add-u64-requires-2 c κs = search needs
+minus-requires-2 : tie.Need-minus-requires-2
+minus-requires-2 c κs = search needs
 
-wrapping-add-u64-requires-3 : tie.Need-wrapping-add-u64-requires-3
-wrapping-add-u64-requires-3 c κs = search needs
+minus-requires-3 : tie.Need-minus-requires-3
+minus-requires-3 c κs = search needs
 
 returns : tie.Need-returns
 unfolding allBelow marksKind plain
-returns c = by-lane plain lane tt (cc)
+returns c = by-lane plain lane tt tt (cc)
 
 pub plain-stops-spec : {M : Type 1} → statement M
-plain-stops-spec =
-    tie.close
-    (tie.spec
-    wrapping-add-u64-requires
-    wrapping-add-u64-requires-2
-    wrapping-add-u64-requires-3
-    returns)
+plain-stops-spec = tie.close (tie.spec minus-requires minus-requires-2 minus-requires-3 returns)

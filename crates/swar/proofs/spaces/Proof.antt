@@ -44,7 +44,7 @@ returns c =
     let at = c .before .before .before .before in
     passed-more (c .zero-bytes .result) (at .loop .inv) (omega (arith, first-within (c .zero-bytes .ensures)))
     (stops-before (λ j. omega (arith, at .before .shared-slice-known .given j)) (c .before .before .load8 .ensures)
-    (by-lane spaceByte lane tt refl) (c .zero-bytes .ensures))
+    (by-lane spaceByte lane tt tt refl) (c .zero-bytes .ensures))
 
 add-i : tie.Need-add-i Inv-loop μ-loop
 add-i c = search needs
@@ -58,7 +58,7 @@ loop-again c =
     let at = c .before .before .before in
     passed-more 8 (at .loop .inv) (omega arith)
     (stops-none (λ j. omega (arith, at .before .shared-slice-known .given j)) (c .before .load8 .ensures)
-    (by-lane spaceByte lane tt refl) (c .if1 .left))
+    (by-lane spaceByte lane tt tt refl) (c .if1 .left))
 
 returns-2 : tie.Need-returns-2 Inv-loop μ-loop
 returns-2 c = c .before .loop .inv
