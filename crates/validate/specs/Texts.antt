@@ -32,6 +32,21 @@ quote-step zero h e k ρ = rw e refl
 quote-step (suc zero) h e k ρ = rw e refl
 quote-step (suc (suc n)) h e k ρ = absurd (omega arith)
 
+-- the colon of a name, where one is due
+module _ {s : List ℕ} {i to : ℕ} (p : Led s i colon colon true to) {b : Bool} (x : AmongAt (0x3A ∷ []) s to b) where
+  pub colon-there : b ≡ true → Led s i colon valueDue true (to + 1)
+  unfolding step
+  colon-there z = let c = rw z at x in let n = among-byte c in led-go p valueDue (among-within c) (λ k ρ. rw n refl)
+
+  pub colon-missing : b ≡ false → (to < length s → blank (getD s to 0) ≡ false) → Led s i colon valueDue false to
+  colon-missing z stop = by (rw z at x)
+    where
+      by : AmongAt (0x3A ∷ []) s to false → Led s i colon valueDue false to
+      by (byte l (other n no-more)) =
+          led-die p valueDue l
+          (λ k. step-by colon k endless {o = none} (past-blanks colon (one 0x3A valueDue ∷ []) (stop l) (past (missed n) nowhere)))
+      by (nothing l) = led-end p valueDue l refl
+
 -- a name is due, and no string stands there
 pub name-missing :
     {s kinds : List ℕ} {depth i : ℕ} → Ready s kinds depth i → (getD s i 0 ≡ 0x22 → ⊥) → {due g r′ d′ due′ : ℕ} → due ≡ 1 →
@@ -60,29 +75,13 @@ module _ {s : List ℕ} {i due : ℕ} (h : i < length s) (e : getD s i 0 ≡ 0x2
           let whole = rw (y, name) at (p (naming due)) in
           record { turned = λ kinds q. led-turn q due (led-on quoted whole) (λ n. omega (arith, p true .from)) (omega arith) t }
 
-      module _ (m : due ≡ 0 → ⊥) {to : ℕ} (g : Run blank s end to) {b : Bool} (x : AmongAt (0x3A ∷ []) s to b) where
-        colon-here : Led s i (dueOf due) colon true to
-        colon-here =
-            let z : due ≡ 1 = omega (arith, m) in
-            let name : closed (naming due) ≡ colon = ap (λ (n : ℕ). closed (naming n)) z in
-            led-blanks at-colon (led-on quoted (rw (y, name) at (p (naming due)))) (g .passed)
-
-        pub text-bare : b ≡ false → {depth g r′ d′ due′ : ℕ} → TurnTo false to depth 0 g r′ d′ due′ → Texted s i depth due g r′ d′ due′
-        text-bare z t = record { turned = λ kinds q. led-turn q due (by (rw z at x)) never (omega arith) t }
-          where
-            by : AmongAt (0x3A ∷ []) s to false → Led s i (dueOf due) valueDue false to
-            by (byte l (other n no-more)) =
-                led-die colon-here valueDue l
-                (λ k. step-by colon k endless {o = none} (past-blanks colon (one 0x3A valueDue ∷ []) (g .stop l) (past (missed n) nowhere)))
-            by (nothing l) = led-end colon-here valueDue l refl
-
-        pub text-named : b ≡ true → {depth g r′ d′ due′ : ℕ} → TurnTo true (to + 1) depth 0 g r′ d′ due′ → Texted s i depth due g r′ d′ due′
-        unfolding step
-        text-named z t =
-            let c = rw z at x in
-            let n = among-byte c in
-            record {
-              turned = λ kinds q.
-                  led-turn q due (led-go colon-here valueDue (among-within c) (λ k ρ. rw n refl))
-                  (λ k. omega (arith, p true .from, g .passed .forward)) (omega arith) t;
-            }
+      pub text-named :
+          (due ≡ 0 → ⊥) → {good : Bool} {r : ℕ} → Led s end colon valueDue good r → {depth g r′ d′ due′ : ℕ} →
+          TurnTo good r depth 0 g r′ d′ due′ → Texted s i depth due g r′ d′ due′
+      text-named m g t =
+          let z : due ≡ 1 = omega (arith, m) in
+          let name : closed (naming due) ≡ colon = ap (λ (n : ℕ). closed (naming n)) z in
+          let whole = rw (y, name) at (p (naming due)) in
+          record {
+            turned = λ kinds q. led-turn q due (led-on (led-on quoted whole) g) (λ n. omega (arith, p true .from, g .from)) (omega arith) t;
+          }

@@ -6,7 +6,7 @@ ghost use lib.ListN.{length, getD};
 ghost use Rattle.encoding.specs.RowTable.{RowTable};
 ghost use Rattle.json.specs.Grammar as grammar;
 ghost use Rattle.json.specs.Led.{Led};
-ghost use Rattle.json.specs.Machine.{afterMinus, valueDue};
+ghost use Rattle.json.specs.Machine.{afterMinus, colon, valueDue};
 ghost use Rattle.validate.specs.Nesting.{kindOf};
 ghost use Rattle.validate.specs.Scalars.{Bare, Scalar};
 ghost use Rattle.validate.specs.Texts.{Texted};
@@ -164,6 +164,30 @@ fn value(s: &[u8], kinds: &mut [u8; 512], at: usize, depth: usize) -> Turn
     turn_to(scalar.ok, scalar.at, depth, AFTER)
 }
 
+// Reads the colon after a name: at once where it follows, or after blanks.
+fn colon_end(s: &[u8], at: usize) -> Scan
+    requires { ⌜ at ≤ length (now s) ⌝ }
+    ensures { λ r. ⌜ Led (now (s .entry)) at colon valueDue (r .ok) (r .at) ⌝ }
+{
+    if words::byte_at(s, at, b':') {
+        return Scan {
+            ok: true,
+            at: at + 1,
+        };
+    }
+    let place = swar::blank_run(s, at);
+    if !words::byte_at(s, place, b':') {
+        return Scan {
+            ok: false,
+            at: place,
+        };
+    }
+    Scan {
+        ok: true,
+        at: place + 1,
+    }
+}
+
 // Reads a string, where a value or a name is due, and the colon after a name.
 fn text(s: &[u8], rows: &[u8; 45], at: usize, depth: usize, due: u8) -> Turn
     requires { ⌜ RowTable (now rows) × (at < length (now s)) × (getD (now s) at 0 ≡ 0x22) × (due < 2) ⌝ }
@@ -177,11 +201,8 @@ fn text(s: &[u8], rows: &[u8; 45], at: usize, depth: usize, due: u8) -> Turn
     if due == VALUE {
         return turn_to(true, end, depth, AFTER);
     }
-    let colon = swar::blank_run(s, end);
-    if !words::byte_at(s, colon, b':') {
-        return turn_to(false, colon, depth, VALUE);
-    }
-    turn_to(true, colon + 1, depth, VALUE)
+    let name = colon_end(s, end);
+    turn_to(name.ok, name.at, depth, VALUE)
 }
 
 // Reads what follows a value: a comma, or the bracket that closes the container around it.

@@ -1,7 +1,7 @@
 -- `validate::turns::text` meets its contract: the string is wrong, or it is a value, or it is a name with or without its colon. Assumes nothing.
 use mathlib.Core.Bool.{true}
 use borrow.Author.Tests.{not-true, not-false}
-use Rattle.validate.specs.Texts.{text-wrong, text-value, text-bare, text-named}
+use Rattle.validate.specs.Texts.{text-wrong, text-value, text-named}
 use borrow.Author.Needs.{needs}
 use Rattle.validate.proofs.turns.text.Statement.{statement}
 use Rattle.validate.proofs.turns.text.Tie as tie
@@ -16,34 +16,33 @@ turn-to-requires : tie.Need-turn-to-requires
 turn-to-requires c κs = search needs
 
 returns : tie.Need-returns
-returns c = text-wrong (c .before .before .before .before .before .pre .1) (c .before .before .before .before .before .pre .2) (c .before .before .before .before .before .pre .3) (c .before .before .before .string-end .ensures) (not-true _ (c .before .if1 .taken)) (c .turn-to .ensures)
+returns c =
+    let at-string = c .before .before .before in
+    let pre = at-string .before .before .pre in
+    text-wrong (pre .1) (pre .2) (pre .3) (at-string .string-end .ensures) (not-true _ (c .before .if1 .taken)) (c .turn-to .ensures)
 
 turn-to-requires-2 : tie.Need-turn-to-requires-2
 turn-to-requires-2 c κs = search needs
 
 returns-2 : tie.Need-returns-2
-returns-2 c = text-value (c .before .before .before .before .before .before .pre .1) (c .before .before .before .before .before .before .pre .2) (c .before .before .before .before .before .before .pre .3) (c .before .before .before .before .string-end .ensures) (not-false _ (c .before .before .if1 .left)) (c .before .if2 .taken) (c .turn-to2 .ensures)
+returns-2 c =
+    let at-string = c .before .before .before .before in
+    let pre = at-string .before .before .pre in
+    text-value (pre .1) (pre .2) (pre .3) (at-string .string-end .ensures) (not-false _ (c .before .before .if1 .left))
+    (c .before .if2 .taken) (c .turn-to2 .ensures)
 
-blank-run-requires : tie.Need-blank-run-requires
-blank-run-requires c κs = c .before .before .before .string-end .ensures true .within
-
-byte-at-requires : tie.Need-byte-at-requires
-byte-at-requires c κs = search needs
+colon-end-requires : tie.Need-colon-end-requires
+colon-end-requires c κs = c .before .before .before .string-end .ensures true .within
 
 turn-to-requires-3 : tie.Need-turn-to-requires-3
 turn-to-requires-3 c κs = search needs
 
 returns-3 : tie.Need-returns-3
-returns-3 c = text-bare (c .before .before .before .before .before .before .before .before .before .pre .1) (c .before .before .before .before .before .before .before .before .before .pre .2) (c .before .before .before .before .before .before .before .before .before .pre .3) (c .before .before .before .before .before .before .before .string-end .ensures) (not-false _ (c .before .before .before .before .before .if1 .left)) (c .before .before .before .before .if2 .left) (c .before .before .before .blank-run .ensures) (c .before .before .byte-at .ensures) (not-true _ (c .before .if3 .taken)) (c .turn-to3 .ensures)
-
-add-turn-to : tie.Need-add-turn-to
-add-turn-to c = search needs
-
-turn-to-requires-4 : tie.Need-turn-to-requires-4
-turn-to-requires-4 c κs = search needs
-
-returns-4 : tie.Need-returns-4
-returns-4 c = text-named (c .before .before .before .before .before .before .before .before .before .pre .1) (c .before .before .before .before .before .before .before .before .before .pre .2) (c .before .before .before .before .before .before .before .before .before .pre .3) (c .before .before .before .before .before .before .before .string-end .ensures) (not-false _ (c .before .before .before .before .before .if1 .left)) (c .before .before .before .before .if2 .left) (c .before .before .before .blank-run .ensures) (c .before .before .byte-at .ensures) (not-false _ (c .before .if3 .left)) (c .turn-to4 .ensures)
+returns-3 c =
+    let at-string = c .before .before .before .before .before in
+    let pre = at-string .before .before .pre in
+    text-named (pre .1) (pre .2) (pre .3) (at-string .string-end .ensures) (not-false _ (c .before .before .before .if1 .left))
+    (c .before .before .if2 .left) (c .before .colon-end .ensures) (c .turn-to3 .ensures)
 
 pub text-spec : {M : Type 1} → statement M
 text-spec =
@@ -55,10 +54,6 @@ text-spec =
     returns
     turn-to-requires-2
     returns-2
-    blank-run-requires
-    byte-at-requires
+    colon-end-requires
     turn-to-requires-3
-    returns-3
-    add-turn-to
-    turn-to-requires-4
-    returns-4)
+    returns-3)
