@@ -88,7 +88,8 @@ module _ (q : Query) (t : Tree) (list : List ℕ) where
   }
 
   -- demand 3
-  pub demand3 : Given q t list → {after : List ℕ} {g p n k : ℕ} → Lists (Q.text q) (J.text t) list after g p n k → Demand3 q t list (answered g p n k after)
+  pub demand3 : Given q t list → {after : List ℕ} {g p n k : ℕ} → Lists (Q.text q) (J.text t) list after g p n k
+      → Demand3 q t list (answered g p n k after)
   unfolding pairsOf
   demand3 h x =
       let (ns, y) = enumeration t (stepsOf q) in

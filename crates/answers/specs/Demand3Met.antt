@@ -130,7 +130,8 @@ cases =
     case
     (step Q.deep Q.Short.star ∷ [])
     (alone
-    (J.container J.array (J.items [] tt (digit 0x33 tt) (J.more [] [] tt (J.container J.array (J.items [] tt (digit 0x34 tt) (J.end []))) (J.end [])))))
+    (J.container J.array
+    (J.items [] tt (digit 0x33 tt) (J.more [] [] tt (J.container J.array (J.items [] tt (digit 0x34 tt) (J.end []))) (J.end [])))))
     refl ∷
     case
     (record { before = space ∷ []; segment = Q.bracketed Q.plain [] (Q.quoted Q.single (Q.high (byte 0x61 tt) ∷ [])) (space ∷ []) } ∷ [])
@@ -142,7 +143,8 @@ cases =
     (member
     (J.high (byte 0x78 tt) ∷ [])
     (J.string
-    (J.high (byte 0x6C tt) ∷ J.high (byte 0x6F tt) ∷ J.high (byte 0x74 tt) ∷ J.escaped J.quote ∷ J.mid (byte 0x3A tt) ∷ J.mid (byte 0x39 tt) ∷ J.high (byte 0x7D tt) ∷ []))))
+    (J.high (byte 0x6C tt) ∷ J.high (byte 0x6F tt) ∷ J.high (byte 0x74 tt) ∷ J.escaped J.quote ∷
+    J.mid (byte 0x3A tt) ∷ J.mid (byte 0x39 tt) ∷ J.high (byte 0x7D tt) ∷ []))))
     refl ∷
     []
 

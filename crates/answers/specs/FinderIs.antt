@@ -141,7 +141,8 @@ module _ («record» : List ℕ) (offset : ℕ) where
   finds-say h = rw (h .ground-is, h .place-is, h .end-is) finder-says
 
   -- of a record that is taken: ground 0 exactly if a node begins at the offset, and then the end is its end
-  pub finds-exactly : {t : Tree} {g p e : ℕ} → RecordIs «record» t → Finds «record» offset g p e → (g ≡ 0) ↔ ((n : Node) × Begins t offset n × (e ≡ endOf n))
+  pub finds-exactly : {t : Tree} {g p e : ℕ} → RecordIs «record» t → Finds «record» offset g p e
+      → (g ≡ 0) ↔ ((n : Node) × Begins t offset n × (e ≡ endOf n))
   finds-exactly {t} {g} {p} {e} ht h = (go (finds-say h), λ x. h .ground-is ∙ sym (finds-node ht (x .0) (x .1) .ground-is))
     where
       go : {g p e : ℕ} → FinderSays «record» offset g p e → g ≡ 0 → (n : Node) × Begins t offset n × (e ≡ endOf n)

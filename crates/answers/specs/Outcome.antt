@@ -26,7 +26,8 @@ abbrev pub refused : (ground place pairs : ℕ) → (after : List ℕ) → Outco
 refused g p n a = answered g p n 0 a
 
 -- what meets a lister's promise is the outcome by computing
-pub lists-outcome : {query text list after : List ℕ} {g p n k : ℕ} → Lists query text list after g p n k → answered g p n k after ≡ outcome query text list
+pub lists-outcome : {query text list after : List ℕ} {g p n k : ℕ} → Lists query text list after g p n k
+    → answered g p n k after ≡ outcome query text list
 unfolding outcome
 lists-outcome x =
     λ i. record { ground = x .ground-is i; place = x .place-is i; pairs = x .pairs-are i; peak = x .peak-is i; after = x .list-is i }

@@ -80,7 +80,9 @@ scalar-or-container (container k is) t f h = h
 
 put-dead : (v : Value) (a f : ℕ) (t : Tally) → Counted t f → put t (visit (deadState f) v a) ≡ t
 unfolding put
-put-dead v a f t h = ap (raised (containerFrames v f)) (listed-none t (record { value = v; first = a })) ∙ raised-counted (containerFrames v f) t (scalar-or-container v t f h)
+put-dead v a f t h =
+    ap (raised (containerFrames v f)) (listed-none t (record { value = v; first = a }))
+    ∙ raised-counted (containerFrames v f) t (scalar-or-container v t f h)
 
 module _ (q : List Step) where
   mutual
@@ -95,7 +97,8 @@ module _ (q : List Step) where
         ∙ items-dead is (deadState f) (a + 1) t refl h
 
     -- the items of a container without marks, whose own frames count already
-    pub items-dead : {k : Kind} (is : Items k) (s : State) (a : ℕ) (t : Tally) → s .marks ≡ 0 → Counted t (s .frames) → tallied t (itemsVisits (next q) is s a) ≡ t
+    pub items-dead : {k : Kind} (is : Items k) (s : State) (a : ℕ) (t : Tally) → s .marks ≡ 0 → Counted t (s .frames)
+        → tallied t (itemsVisits (next q) is s a) ≡ t
     items-dead (empty w) s a t e h = refl
     items-dead {k} (items w key v m) s a t e h =
         let b = a + length w + keySize k key in
@@ -105,7 +108,8 @@ module _ (q : List Step) where
         ∙ ap (λ (x : Tally). tallied x (moreVisits (next q) m s 1 (b + size v))) (value-dead v (s .frames) b t h)
         ∙ more-dead m s 1 (b + size v) t e h
 
-    pub more-dead : {k : Kind} (m : More k) (s : State) (j a : ℕ) (t : Tally) → s .marks ≡ 0 → Counted t (s .frames) → tallied t (moreVisits (next q) m s j a) ≡ t
+    pub more-dead : {k : Kind} (m : More k) (s : State) (j a : ℕ) (t : Tally) → s .marks ≡ 0 → Counted t (s .frames)
+        → tallied t (moreVisits (next q) m s j a) ≡ t
     more-dead (end w) s j a t e h = refl
     more-dead {k} (more w w′ key v m) s j a t e h =
         let b = a + length w + 1 + length w′ + keySize k key in

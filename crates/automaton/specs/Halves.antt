@@ -105,7 +105,8 @@ module _ (w e : ℕ) where
   picked-finish : (b : Bool) (t : Tally) (n : Node) → Waits w (t .used) → listIfPicked b (finish w e t) n ≡ finish w e (listIfPicked b t n)
   unfolding listIfPicked finish
   picked-finish true t n h =
-      ap (λ (x : ℕ). listIfRoom (ltb (t .used) x) (finish w e t) n) (pairsOf-endPair w e (t .list)) ∙ room-finish (ltb (t .used) (pairsOf (t .list))) t n h
+      ap (λ (x : ℕ). listIfRoom (ltb (t .used) x) (finish w e t) n) (pairsOf-endPair w e (t .list))
+      ∙ room-finish (ltb (t .used) (pairsOf (t .list))) t n h
   picked-finish false t n h = refl
 
   listed-finish : (b : Bool) (t : Tally) (n : Node) → Waits w (t .used) → listed b (finish w e t) n ≡ finish w e (listed b t n)
@@ -154,7 +155,8 @@ module _ (w e : ℕ) where
   pub waits-put : (t : Tally) (v : Visit State) → Waits w (t .used) → Waits w (put t v .used)
   unfolding put
   waits-put t v h =
-      waits-raised (containerFrames (v .node .value) (v .state .frames)) (listed (v .state .picked) t (v .node)) (waits-listed (v .state .picked) t (v .node) h)
+      waits-raised (containerFrames (v .node .value) (v .state .frames)) (listed (v .state .picked) t (v .node))
+      (waits-listed (v .state .picked) t (v .node) h)
 
   pub waits-tallied : (vs : List (Visit State)) (t : Tally) → Waits w (t .used) → Waits w (tallied t vs .used)
   unfolding tallied
@@ -183,7 +185,8 @@ waits-begun p t a = go (t .stop) p
 
 -- the two halves, one after the other, list the node
 pub listed-halves : (p : Bool) (t : Tally) (n : Node) → listed p t n ≡ finish (waiting p t) (endOf n) (begin p t (n .first))
-unfolding listed listFrom listIfPicked listIfRoom setPair finish endPair waiting waitingFrom waitingIfPicked waitingIfRoom begin beginFrom beginIfPicked beginIfRoom
+unfolding listed listFrom listIfPicked listIfRoom setPair finish endPair waiting waitingFrom waitingIfPicked waitingIfRoom
+    begin beginFrom beginIfPicked beginIfRoom
 listed-halves p t n = go (t .stop) p
   where
     room : (b : Bool) → listIfRoom b t n ≡ finish (waitingIfRoom b (t .used)) (endOf n) (beginIfRoom b t (n .first))

@@ -12,7 +12,8 @@ use Rattle.json.specs.Verdict as J
 use Rattle.json.specs.Verdict.{maxDepth, maxBytes, recordVerdict, RecordSays, recordSays}
 use Rattle.query.specs.Verdict.{queryVerdict, stepsIn}
 use Rattle.select.specs.Ways.{Span, spans, peak}
-use Rattle.answers.specs.Lister.{orElse, inputVerdict, spansOf, spansIn, peakOf, peakIn, pairsOf, leftOver, listVerdict, writtenIf, written, peakIf, flat, ground, place, pairs, peakAnswer, listAfter, Lists}
+use Rattle.answers.specs.Lister.{orElse, inputVerdict, spansOf, spansIn, peakOf, peakIn, pairsOf, leftOver, listVerdict}
+use Rattle.answers.specs.Lister.{writtenIf, written, peakIf, flat, ground, place, pairs, peakAnswer, listAfter, Lists}
 use Rattle.answers.specs.Lister as lister
 use Rattle.answers.specs.Within.{RecordIs, record-tree}
 use Rattle.automaton.specs.Tally.{Tally}
@@ -42,7 +43,8 @@ module _ (q r l : List ℕ) where
             place-is = ap (λ (v : Verdict). orElse v (listVerdict (spansIn q r) l) .place) (sym e);
             pairs-are = ap (λ (v : Verdict). length (writtenIf (v .ground) (spansIn q r) l)) (sym e);
             peak-is = ap (λ (v : Verdict). peakIf (orElse v (listVerdict (spansIn q r) l) .ground) (peakIn q r)) (sym e);
-            list-is = ap (λ (v : Verdict). flat (writtenIf (v .ground) (spansIn q r) l) ++ drop (2 * length (writtenIf (v .ground) (spansIn q r) l)) l) (sym e);
+            list-is =
+                ap (λ (v : Verdict). let ss = writtenIf (v .ground) (spansIn q r) l in flat ss ++ drop (2 * length ss) l) (sym e);
           }
 
   -- refused by the query
@@ -63,11 +65,13 @@ module _ (q r l : List ℕ) where
       go (suc g) e = absurd (omega arith)
 
   -- refused by the record
-  pub lists-record : (g p : ℕ) → queryVerdict q .ground ≡ 0 → g ≡ recordVerdict r .ground → p ≡ recordVerdict r .place → (g ≡ 0 → ⊥) → Lists q r l l g p 0 0
+  pub lists-record : (g p : ℕ) → queryVerdict q .ground ≡ 0 → g ≡ recordVerdict r .ground → p ≡ recordVerdict r .place → (g ≡ 0 → ⊥)
+      → Lists q r l l g p 0 0
   lists-record g p z e f h = refused-by g p h (query-taken-by z ∙ ap₂ (λ (x y : ℕ). verdict.refused x y) (sym e) (sym f))
 
   -- neither is refused, and the tally of all nodes is this one
-  module _ (z : queryVerdict q .ground ≡ 0) (y : recordVerdict r .ground ≡ 0) (t : Tree) (is : RecordIs r t) (after : Tally) (whole : Whole (stepsIn q) t l after) where
+  module _ (z : queryVerdict q .ground ≡ 0) (y : recordVerdict r .ground ≡ 0) (t : Tree) (is : RecordIs r t) (after : Tally)
+      (whole : Whole (stepsIn q) t l after) where
     ss : List Span
     ss = spans t (stepsIn q)
 
@@ -94,7 +98,8 @@ module _ (q r l : List ℕ) where
         go v e = ap (λ (g : ℕ). orElse (verdict.refused g (v .place)) (listVerdict (spansIn q r) l)) e
 
     -- the numbers, by what is left over
-    numbers : (over : List Span) (g p k : ℕ) → drop (pairsOf l) ss ≡ over → g ≡ leftOver over .ground → p ≡ leftOver over .place → k ≡ peakIf g (peak t (stepsIn q))
+    numbers : (over : List Span) (g p k : ℕ) → drop (pairsOf l) ss ≡ over → g ≡ leftOver over .ground → p ≡ leftOver over .place
+        → k ≡ peakIf g (peak t (stepsIn q))
         → Lists q r l (after .list) g p (after .used) k
     unfolding ground place pairs peakAnswer listAfter ss
     numbers over g p k e f h i =

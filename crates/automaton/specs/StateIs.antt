@@ -37,8 +37,10 @@ module _ (q : List Step) where
   mark-next w l zero h = mark-zero q l w ∙ ap (λ (b : Bool). isDeep (getElem? q 0) && b) (mark-bit w 0 h)
   mark-next w l (suc i) h =
       mark-suc q i l w
-      ∙ ap (λ (b : Bool). b && ((stepHits (getElem? q i) l && mark q i w) || (isDeep (getElem? q (suc i)) && mark q (suc i) w))) (lt-ltb (suc i) (length q) h)
-      ∙ ap₂ (λ (a b : Bool). (stepHits (getElem? q i) l && a) || (isDeep (getElem? q (suc i)) && b)) (mark-bit w i (omega arith)) (mark-bit w (suc i) h)
+      ∙ ap (λ (b : Bool). b && ((stepHits (getElem? q i) l && mark q i w) || (isDeep (getElem? q (suc i)) && mark q (suc i) w)))
+      (lt-ltb (suc i) (length q) h)
+      ∙ ap₂ (λ (a b : Bool). (stepHits (getElem? q i) l && a) || (isDeep (getElem? q (suc i)) && b))
+      (mark-bit w i (omega arith)) (mark-bit w (suc i) h)
 
   marks-next : (w : Way) (l : Label) → marksAt (l ∷ w) ≡ nextMarks q (marksAt w) l
   unfolding marksAt nextMarks
@@ -58,7 +60,8 @@ module _ (q : List Step) where
   same-number w w′ = go (sameMarks q (length q) w w′) refl
     where
       go : (b : Bool) → sameMarks q (length q) w w′ ≡ b → b ≡ eqb (marksAt w) (marksAt w′)
-      go true e = sym (eq-eqb (marksAt w) (marksAt w′) (number-same (length q) (λ i. mark q i w) (λ i. mark q i w′) (first-marks q (length q) w w′ .0 e)))
+      go true e =
+          sym (eq-eqb (marksAt w) (marksAt w′) (number-same (length q) (λ i. mark q i w) (λ i. mark q i w′) (first-marks q (length q) w w′ .0 e)))
       go false e =
           sym
           (ne-eqb (marksAt w) (marksAt w′)

@@ -43,8 +43,10 @@ pub record Counted (before after : Tally) (k : ℕ) (ss : List Span) (m : ℕ) :
 max-assoc : (a b c : ℕ) → max (max a b) c ≡ max a (max b c)
 max-assoc a b c =
     le-antisymm
-    (max-le (max-le (le-max-left a (max b c)) (le-trans (le-max-left b c) (le-max-right a (max b c)))) (le-trans (le-max-right b c) (le-max-right a (max b c))))
-    (max-le (le-trans (le-max-left a b) (le-max-left (max a b) c)) (max-le (le-trans (le-max-right a b) (le-max-left (max a b) c)) (le-max-right (max a b) c)))
+    (max-le (max-le (le-max-left a (max b c)) (le-trans (le-max-left b c) (le-max-right a (max b c))))
+    (le-trans (le-max-right b c) (le-max-right a (max b c))))
+    (max-le (le-trans (le-max-left a b) (le-max-left (max a b) c))
+    (max-le (le-trans (le-max-right a b) (le-max-left (max a b) c)) (le-max-right (max a b) c)))
 
 pub pairsOf-setPair : (l : List ℕ) (i a e : ℕ) → pairsOf (setPair l i a e) ≡ pairsOf l
 unfolding pairsOf setPair
@@ -89,16 +91,23 @@ module _ (q : List Step) where
           (spanIf b (v .node) (pickedSpans q vs)) (max f (mostFrames q vs))
 
       go : (b : Bool) (k : ℕ) → u + k ≡ pairsOf l
-          → ((l : List ℕ) (u k h : ℕ) → u + k ≡ pairsOf l → Counted (active l u h) (tallied (active l u h) (map (over (stateAt q)) vs)) k (pickedSpans q vs) (mostFrames q vs))
+          → ((l : List ℕ) (u k h : ℕ) → u + k ≡ pairsOf l
+          → Counted (active l u h) (tallied (active l u h) (map (over (stateAt q)) vs)) k (pickedSpans q vs) (mostFrames q vs))
           → Goal b k
       go false k e again =
           let r = again l u k (max h f) e in
           record { list-is = r .list-is; used-is = r .used-is; stop-is = r .stop-is; peak-is = λ z. r .peak-is z ∙ max-assoc h f (mostFrames q vs) }
       go true zero e again =
-          rw (le-ltb u (pairsOf l) (omega arith), raised-stopped f (listIfRoom false (active l u h) (v .node)) (v .node .first) (add-one (v .node .first)), tallied-stopped (listIfRoom false (active l u h) (v .node)) (map (over (stateAt q)) vs) (v .node .first) (add-one (v .node .first)))
+          let full = listIfRoom false (active l u h) (v .node) in
+          let first = v .node .first in
+          let raised-is = raised-stopped f full first (add-one first) in
+          let tallied-is = tallied-stopped full (map (over (stateAt q)) vs) first (add-one first) in
+          rw (le-ltb u (pairsOf l) (omega arith), raised-is, tallied-is)
           (record { list-is = refl; used-is = omega arith; stop-is = refl; peak-is = λ z. absurd (omega arith) })
       go true (suc k) e again =
-          let r = again (setPair l u (v .node .first) (endOf (v .node))) (u + 1) k (max h f) (omega (arith, pairsOf-setPair l u (v .node .first) (endOf (v .node)))) in
+          let first = v .node .first in
+          let end = endOf (v .node) in
+          let r = again (setPair l u first end) (u + 1) k (max h f) (omega (arith, pairsOf-setPair l u first end)) in
           rw (lt-ltb u (pairsOf l) (omega arith))
           (record {
             list-is = r .list-is;

@@ -45,7 +45,8 @@ unfolding word
 word-join zero n b d h = omega (arith, word-same n d b (λ k l. h k ∙ ap b (zero-add k)), ap (λ (x : ℕ). word x b) (zero-add n))
 word-join (suc m) n b d h =
     let r = word-join m n (λ k. b (suc k)) d (λ k. h k ∙ ap b (suc-add m k)) in
-    let p : word n d * 2 ^ (8 * suc m) ≡ word n d * 2 ^ (8 * m) * 256 = ap (λ (x : ℕ). word n d * x) (byte-more m) ∙ sym (mul-assoc (word n d) (2 ^ (8 * m)) 256) in
+    let p : word n d * 2 ^ (8 * suc m) ≡ word n d * 2 ^ (8 * m) * 256 =
+    ap (λ (x : ℕ). word n d * x) (byte-more m) ∙ sym (mul-assoc (word n d) (2 ^ (8 * m)) 256) in
     let e : word (suc m + n) b ≡ word (m + n) (λ k. b (suc k)) * 256 + b 0 = ap (λ (x : ℕ). word x b) (suc-add m n) in
     omega arith
 

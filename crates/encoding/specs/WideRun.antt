@@ -6,7 +6,7 @@ use Prim.Native.Nat.{ℕ, _≤_, _<_}
 use native.Mathlib.Omega.{arith}
 use lib.ListN.{length, getD}
 use Rattle.encoding.specs.CodePoint.{reading, Scanned}
-use Rattle.encoding.specs.Utf8At.{reads-at, scanned-within, scanned-moved}
+use Rattle.encoding.specs.Utf8At.{reads-at, scanned-moved}
 
 -- a byte from 80 on stands at place i
 pub record WideAt (s : List ℕ) (i : ℕ) : Type 0 where
@@ -24,13 +24,6 @@ pub data WideRun (s : List ℕ) : ℕ → Bool → ℕ → Type 0 where
 -- a code point goes forward
 point-moved : {s : List ℕ} {i j : ℕ} → Scanned reading s i true j → i < j
 point-moved p = scanned-moved (reads-at p) refl
-
--- the place is in the text
-pub run-within : {s : List ℕ} {i : ℕ} {ok : Bool} {r : ℕ} → WideRun s i ok r → i ≤ length s → r ≤ length s
-run-within (over h) l = l
-run-within (narrow h) l = l
-run-within (broken w p) l = scanned-within p l
-run-within (more w p q) l = run-within q (scanned-within p l)
 
 -- the run does not go back
 run-forward : {s : List ℕ} {i : ℕ} {ok : Bool} {r : ℕ} → WideRun s i ok r → ok ≡ true → i ≤ r

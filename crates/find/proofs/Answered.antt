@@ -46,7 +46,8 @@ module _ (s : List ℕ) (o : ℕ) where
     end-in = ap (λ (x : Option Tree). endAt x o) (record-tree ht)
 
     -- by the end among the nodes
-    finds-among : (x : Option ℕ) → endAmong (nodes t) o ≡ x → Finds s o (offsetVerdict x o .ground) (offsetVerdict x o .place) (endIf (offsetVerdict x o .ground) x)
+    finds-among : (x : Option ℕ) → endAmong (nodes t) o ≡ x
+        → Finds s o (offsetVerdict x o .ground) (offsetVerdict x o .place) (endIf (offsetVerdict x o .ground) x)
     unfolding findVerdict findEnd orElse
     finds-among x e =
         let q : findVerdict s o ≡ offsetVerdict x o = rw (record-is-taken ht, end-in, e) in

@@ -72,7 +72,8 @@ module _ (s : List ℕ) (o a n : ℕ) where
       }
 
   -- a container is entered
-  pub seeks-below : (e r : ℕ) → (a ≡ o → ⊥) → classOf (getD s a 0) ≡ 1 → (n ≡ 0 → ⊥) → SeeksInside s o (a + 1) (eqb (getD s a 0) 0x7B) (n - 1) e r → SeeksValue s o a n e r
+  pub seeks-below : (e r : ℕ) → (a ≡ o → ⊥) → classOf (getD s a 0) ≡ 1 → (n ≡ 0 → ⊥)
+      → SeeksInside s o (a + 1) (eqb (getD s a 0) 0x7B) (n - 1) e r → SeeksValue s o a n e r
   unfolding nesting putValue size
   seeks-below e r h f z x =
       record {
@@ -85,7 +86,8 @@ module _ (s : List ℕ) (o a n : ℕ) where
       Found k = (is : Items k) (rest : List ℕ) (way : Way) → drop (a + 1) s ≡ putItems is rest → itemsNesting is ≤ n - 1
           → Seeks (itemsVisits step is way (a + 1)) o (a + 1 + length (putItems is [])) e r
 
-      go : (v : Value) (rest : List ℕ) (way : Way) → IsContainer v → drop a s ≡ putValue v rest → nesting v ≤ n → Seeks (visits step v way a) o (a + size v) e r
+      go : (v : Value) (rest : List ℕ) (way : Way) → IsContainer v → drop a s ≡ putValue v rest → nesting v ≤ n
+          → Seeks (visits step v way a) o (a + size v) e r
       go _ rest way (holds k is) d l =
           let y = head-of s a (opening k) (putItems is rest) d in
           let p : kindIf (eqb (getD s a 0) 0x7B) ≡ k = ap (λ (b : ℕ). kindIf (eqb b 0x7B)) (y .byte-is) ∙ opening-is k in

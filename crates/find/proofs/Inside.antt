@@ -12,7 +12,7 @@ use Rattle.json.specs.Append.{length-blanks}
 use Rattle.json.specs.Grammar as G
 use Rattle.json.specs.Grammar.{Kind, Key, Value, Items, More, closing, putKey, putValue, putItems, putMore, nesting, itemsNesting, moreNesting}
 use Rattle.select.specs.Nodes.{size, keySize, labelOf}
-use Rattle.select.specs.Visits.{Way, step, visits, itemsVisits, moreVisits}
+use Rattle.select.specs.Visits.{Visit, Way, step, visits, itemsVisits, moreVisits}
 use Rattle.answers.specs.Finder.{endAmong, orZero}
 use Rattle.scan.specs.Places.{head-of, past-blanks, past-key, past-value}
 use Rattle.scan.specs.ShapeLaws.{solid-value, solid-key, starts-value, starts-key, stopped-more}
@@ -34,7 +34,10 @@ module _ (s rest : List ℕ) (k : Kind) (way : Way) (offset n goal end : ℕ) wh
     pub here : drop i s ≡ putBlanks w (putKey k key (putValue v (putMore m rest)))
     pub shallow : nesting v ≤ n
     pub shallow-more : moreNesting m ≤ n
-    pub seeks : goal ≡ endOrZero (visits step v (step way (labelOf k key j)) (valueAt k i w key) ++ moreVisits step m way (j + 1) (valueAt k i w key + size v)) offset
+    pub seeks :
+        goal
+        ≡ endOrZero
+        (visits step v (step way (labelOf k key j)) (valueAt k i w key) ++ moreVisits step m way (j + 1) (valueAt k i w key + size v)) offset
     pub ends : end ≡ valueAt k i w key + size v + length (putMore m [])
 
   -- an item has been passed
@@ -62,8 +65,8 @@ module _ (s rest : List ℕ) (k : Kind) (way : Way) (offset n goal end : ℕ) wh
   unfolding putMore moreVisits moreNesting endAmong orZero
   next-turn i r item x h = go (x .m) (x .here) (x .shallow) (x .seeks) (x .ends)
     where
-      go : (m : More k) → drop i s ≡ putMore m rest → moreNesting m ≤ n → goal ≡ endOrZero (moreVisits step m way (x .j) i) offset → end ≡ i + length (putMore m [])
-          → Turn item r
+      go : (m : More k) → drop i s ≡ putMore m rest → moreNesting m ≤ n
+          → goal ≡ endOrZero (moreVisits step m way (x .j) i) offset → end ≡ i + length (putMore m []) → Turn item r
       go (G.end w) e l f q =
           let y = h .closed k w rest e in
           turn-left (y .0) f (omega (arith, y .1, length-blanks w (closing k ∷ [])))
@@ -82,7 +85,11 @@ module _ (s rest : List ℕ) (k : Kind) (way : Way) (offset n goal end : ℕ) wh
             here = ap (λ (a : ℕ). drop a s) p ∙ head-of s (i + length w) 0x2C u (past-blanks s i w (0x2C ∷ u) e) .rest-is;
             shallow = le-trans (le-max-left (nesting v) (moreNesting m)) l;
             shallow-more = le-trans (le-max-right (nesting v) (moreNesting m)) l;
-            seeks = f ∙ ap (λ (a : ℕ). endOrZero (visits step v (step way (labelOf k key (x .j))) a ++ moreVisits step m way (x .j + 1) (a + size v)) offset) b;
+            seeks =
+                f
+                ∙ ap
+                (λ (a : ℕ). endOrZero (visits step v (step way (labelOf k key (x .j))) a ++ moreVisits step m way (x .j + 1) (a + size v)) offset)
+                b;
             ends =
                 omega (
                   arith,
@@ -102,17 +109,24 @@ module _ (s rest : List ℕ) (k : Kind) (way : Way) (offset n goal end : ℕ) wh
 
     value-here : drop value s ≡ putValue (x .v) after
     value-here =
-        past-key s (i + length (x .w)) k (x .key) (putValue (x .v) after) (past-blanks s i (x .w) (putKey k (x .key) (putValue (x .v) after)) (x .here))
+        past-key s (i + length (x .w)) k (x .key) (putValue (x .v) after)
+        (past-blanks s i (x .w) (putKey k (x .key) (putValue (x .v) after)) (x .here))
 
     -- what was found in it is what is looked for; where nothing was, it is passed
     module _ (e r : ℕ) (h : SeeksValue s offset value n e r) where
-      abbrev own : Seeks (visits step (x .v) (step way (labelOf k (x .key) (x .j))) value) offset (value + size (x .v)) e r
+      abbrev own-visits : List (Visit Way)
+      own-visits = visits step (x .v) (step way (labelOf k (x .key) (x .j))) value
+
+      abbrev later-visits : List (Visit Way)
+      later-visits = moreVisits step (x .m) way (x .j + 1) (value + size (x .v))
+
+      abbrev own : Seeks own-visits offset (value + size (x .v)) e r
       own = h .exact (x .v) after (step way (labelOf k (x .key) (x .j))) value-here (stopped-more (x .m) rest) (x .shallow)
 
       pub item-found : (e ≡ 0 → ⊥) → e ≡ goal
       item-found f =
           own .end-is
-          ∙ sym (found-first offset (visits step (x .v) (step way (labelOf k (x .key) (x .j))) value) (moreVisits step (x .m) way (x .j + 1) (value + size (x .v))) (λ z. f (own .end-is ∙ z)))
+          ∙ sym (found-first offset own-visits later-visits (λ z. f (own .end-is ∙ z)))
           ∙ sym (x .seeks)
 
       pub item-passed : e ≡ 0 → MoreAhead r
@@ -125,21 +139,24 @@ module _ (s rest : List ℕ) (k : Kind) (way : Way) (offset n goal end : ℕ) wh
             shallow = x .shallow-more;
             seeks =
                 x .seeks
-                ∙ found-second offset (visits step (x .v) (step way (labelOf k (x .key) (x .j))) value) (moreVisits step (x .m) way (x .j + 1) (value + size (x .v))) (sym (own .end-is) ∙ z)
+                ∙ found-second offset own-visits later-visits (sym (own .end-is) ∙ z)
                 ∙ ap (λ (a : ℕ). endOrZero (moreVisits step (x .m) way (x .j + 1) a) offset) (sym p);
             ends = omega (arith, x .ends);
           }
 
 -- behind the opening bracket
-pub first-turn : (s rest : List ℕ) (k : Kind) (way : Way) (offset n a i : ℕ) (item : Bool) (is : Items k) → FirstItem s a item i → drop a s ≡ putItems is rest
-    → itemsNesting is ≤ n → Turn s rest k way offset n (endOrZero (itemsVisits step is way a) offset) (a + length (putItems is [])) item i
+pub first-turn : (s rest : List ℕ) (k : Kind) (way : Way) (offset n a i : ℕ) (item : Bool) (is : Items k)
+    → FirstItem s a item i → drop a s ≡ putItems is rest → itemsNesting is ≤ n
+    → Turn s rest k way offset n (endOrZero (itemsVisits step is way a) offset) (a + length (putItems is [])) item i
 unfolding putItems itemsVisits itemsNesting endAmong orZero
 first-turn s rest k way offset n a i item (G.empty w) h e l =
     let y = h .closed k w rest e in
     turn-left _ _ _ _ _ _ _ _ (y .0) refl (omega (arith, y .1, length-blanks w (closing k ∷ [])))
 first-turn s rest k way offset n a i item (G.items w key v m) h e l =
-    let u = putKey k key (putValue v (putMore m rest)) in
-    let y = h .ahead w u e (solid-key k key (putValue v (putMore m rest)) (solid-value v (putMore m rest))) (starts-key k key (putValue v (putMore m rest)) (starts-value v (putMore m rest))) in
+    let after = putMore m rest in
+    let u = putKey k key (putValue v after) in
+    let y =
+    h .ahead w u e (solid-key k key (putValue v after) (solid-value v after)) (starts-key k key (putValue v after) (starts-value v after)) in
     let b : a + length w + keySize k key ≡ valueAt k i [] key = omega (arith, y .1) in
     turn-ahead _ _ _ _ _ _ _ _ (y .0)
     record {

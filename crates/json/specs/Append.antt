@@ -9,7 +9,8 @@ use Rattle.encoding.specs.Utf8 as U
 use Rattle.encoding.specs.Utf8.{Wide, putWide}
 use Rattle.json.specs.Grammar as G
 use Rattle.json.specs.Grammar.{Literal, Minus, Int, Frac, ExpSign, Exp, Char, Kind, Name, Key, opening, closing, Value, Items, More, Tree}
-use Rattle.json.specs.Grammar.{putLiteral, putMinus, putInt, putFrac, putExpSign, putExp, putChar, putChars, putString, putKey, putValue, putItems, putMore, text}
+use Rattle.json.specs.Grammar.{putLiteral, putMinus, putInt, putFrac, putExpSign, putExp, putChar}
+use Rattle.json.specs.Grammar.{putChars, putString, putKey, putValue, putItems, putMore, text}
 
 -- bytes appended to what stands after x are appended to the whole
 

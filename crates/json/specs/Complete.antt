@@ -11,12 +11,18 @@ use Rattle.encoding.specs.Bytes.{In, putIn, Blank, Blanks, blankByte, putBlanks
 use Rattle.encoding.specs.Utf8 as U
 use Rattle.encoding.specs.Utf8.{Wide, putWide}
 use Rattle.json.specs.Grammar as G
-use Rattle.json.specs.Grammar.{Digit, Int, Frac, Exp, ExpSign, E, eByte, Escape, escapeByte, Hex, hexByte, Char, Minus, Literal, Kind, array, object, opening, closing, Key, Value, Items, More, Tree}
-use Rattle.json.specs.Grammar.{putLiteral, putInt, putFrac, putExp, putExpSign, putMinus, putChar, putChars, putString, putKey, putValue, putItems, putMore, text, nesting, itemsNesting, moreNesting}
+use Rattle.json.specs.Grammar.{Digit, Int, Frac, Exp, ExpSign, E, eByte, Escape, escapeByte, Hex, hexByte, Char, Minus}
+use Rattle.json.specs.Grammar.{Literal, Kind, array, object, opening, closing, Key, Value, Items, More, Tree}
+use Rattle.json.specs.Grammar.{putLiteral, putInt, putFrac, putExp, putExpSign, putMinus, putChar, putChars, putString}
+use Rattle.json.specs.Grammar.{putKey, putValue, putItems, putMore, text, nesting, itemsNesting, moreNesting}
 use Rattle.json.specs.Room.{Room, left, endless, Fits, Within, wider, Texts, fits-left, fits-right, fits-less}
-use Rattle.json.specs.Machine.{Second, anyTail, afterE0, afterED, afterF0, afterF4, secondLow, secondHigh, Ctl, item, colon, after, inString, escaping, hexDue, tailDue, wordDue, afterMinus, afterZero, inInt, afterPoint, inFrac, afterE, afterSign, inExp, valueDue}
-use Rattle.json.specs.Machine.{Stack, top, State, dead, at, entered, Rule, one, span, lowest, highest, takes, afterRules, exponentRules, hexRules, closed, rules, pick, step, run, final, accept, start}
-use Rattle.json.specs.Steps.{pick-later, takes-between, landing, lands, step-in, step-by, inside, item-blank, item-open, item-close, colon-blank, after-blank, after-comma, after-close}
+use Rattle.json.specs.Machine.{Second, anyTail, afterE0, afterED, afterF0, afterF4, secondLow, secondHigh, Ctl}
+use Rattle.json.specs.Machine.{item, colon, after, inString, escaping, hexDue, tailDue, wordDue, afterMinus}
+use Rattle.json.specs.Machine.{afterZero, inInt, afterPoint, inFrac, afterE, afterSign, inExp, valueDue}
+use Rattle.json.specs.Machine.{Stack, top, State, dead, at, entered, Rule, one, span, lowest, highest, takes, afterRules}
+use Rattle.json.specs.Machine.{exponentRules, hexRules, closed, rules, pick, step, run, final, accept, start}
+use Rattle.json.specs.Steps.{pick-later, takes-between, landing, lands, step-in, step-by, inside, item-blank}
+use Rattle.json.specs.Steps.{item-open, item-close, colon-blank, after-blank, after-comma, after-close}
 
 -- s completes a text from the state
 abbrev pub Accepts : State → List ℕ → Type 0

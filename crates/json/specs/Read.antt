@@ -139,7 +139,8 @@ module _ {A : Type 0} where
       go false t e = absurd (Option·none-ne-some _ e)
 
   -- for a byte of case number i that case is chosen
-  pub picked : (i : ℕ) (cs : List (Case A)) (a : A) {r : Case A} → caseAt i cs ≡ some r → (x : In (r .low) (r .high)) → pick cs a (x .byte) ≡ r .choice x
+  pub picked : (i : ℕ) (cs : List (Case A)) (a : A) {r : Case A} → caseAt i cs ≡ some r → (x : In (r .low) (r .high))
+      → pick cs a (x .byte) ≡ r .choice x
   unfolding pick caseAt
   picked i [] a e x = absurd (Option·none-ne-some _ e)
   picked N.zero (c ∷ cs) a {r} e x =

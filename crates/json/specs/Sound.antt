@@ -11,11 +11,15 @@ use Rattle.encoding.specs.Bytes as B
 use Rattle.encoding.specs.Bytes.{In, putIn, Blank, Blanks, blankByte, putBlanks}
 use Rattle.encoding.specs.Utf8 as U
 use Rattle.json.specs.Grammar as G
-use Rattle.json.specs.Grammar.{Digit, Int, Frac, Exp, ExpSign, E, eByte, Escape, escapeByte, Hex, hexByte, Char, Kind, array, object, opening, closing, Key, Value, More}
+use Rattle.json.specs.Grammar.{Digit, Int, Frac, Exp, ExpSign, E, eByte, Escape, escapeByte, Hex, hexByte}
+use Rattle.json.specs.Grammar.{Char, Kind, array, object, opening, closing, Key, Value, More}
 use Rattle.json.specs.Grammar.{putInt, putFrac, putExp, putExpSign, putChars, putKey, putValue, putMore, text, nesting, moreNesting}
 use Rattle.json.specs.Room.{Room, left, endless, Fits, Within, wider, Texts, fits-nothing, fits-max, fits-more}
-use Rattle.json.specs.Machine.{anyTail, afterE0, afterED, afterF0, afterF4, secondLow, secondHigh, Ctl, item, colon, after, inString, escaping, hexDue, tailDue, wordDue, afterMinus, afterZero, inInt, afterPoint, inFrac, afterE, afterSign, inExp}
-use Rattle.json.specs.Machine.{Stack, top, pop, State, dead, at, entered, Rule, one, span, opens, closes, apply, closeRules, afterRules, hexRules, closed, rules, takes, pick, step, run, final, isEmpty, accept, start}
+use Rattle.json.specs.Machine.{anyTail, afterE0, afterED, afterF0, afterF4, secondLow, secondHigh, Ctl, item}
+use Rattle.json.specs.Machine.{colon, after, inString, escaping, hexDue, tailDue, wordDue, afterMinus}
+use Rattle.json.specs.Machine.{afterZero, inInt, afterPoint, inFrac, afterE, afterSign, inExp}
+use Rattle.json.specs.Machine.{Stack, top, pop, State, dead, at, entered, Rule, one, span, opens, closes, apply, closeRules}
+use Rattle.json.specs.Machine.{afterRules, hexRules, closed, rules, takes, pick, step, run, final, isEmpty, accept, start}
 
 -- after a value
 data After : Stack → Room → List ℕ → Type 0 where

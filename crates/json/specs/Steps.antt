@@ -11,7 +11,8 @@ use Rattle.encoding.specs.Bytes as B
 use Rattle.encoding.specs.Bytes.{In, Blank, blankByte}
 use Rattle.json.specs.Grammar.{Kind, array, object, opening, closing}
 use Rattle.json.specs.Room.{Room, left, endless, wider}
-use Rattle.json.specs.Machine.{Ctl, item, colon, after, Stack, top, pop, State, dead, at, entered, Rule, one, span, opens, closes, lowest, highest, takes, apply, afterRules, rules, pick, step}
+use Rattle.json.specs.Machine.{Ctl, item, colon, after, Stack, top, pop, State, dead, at, entered, Rule, one, span}
+use Rattle.json.specs.Machine.{opens, closes, lowest, highest, takes, apply, afterRules, rules, pick, step}
 
 -- tests
 and-so : (x y : Bool) → T (x && y) → T x × T y

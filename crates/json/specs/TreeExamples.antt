@@ -92,7 +92,8 @@ blanks-everywhere : treeOf
           (G.items
           (B.tab ∷ [])
           tt
-          (G.container G.object (G.items (B.feed ∷ []) (record { chars = M ∷ []; before = B.return ∷ []; after = B.space ∷ [] }) one (G.end (B.tab ∷ []))))
+          (G.container G.object
+          (G.items (B.feed ∷ []) (record { chars = M ∷ []; before = B.return ∷ []; after = B.space ∷ [] }) one (G.end (B.tab ∷ []))))
           (G.more (B.feed ∷ []) (B.return ∷ B.space ∷ []) tt (G.container G.array (G.empty (B.space ∷ []))) (G.end (B.tab ∷ []))));
       after = B.feed ∷ [];
     })

@@ -16,7 +16,8 @@ use Rattle.json.specs.Grammar.{Literal, Minus, Int, Char, Kind, Key, ope
 use Rattle.json.specs.Grammar.{putLiteral, putMinus, putInt, putFrac, putExp, putString, putKey, putValue, putItems, putMore, text}
 use Rattle.json.specs.Append.{length-blanks, length-key, length-value, value-positive, length-more, more-positive}
 use Rattle.json.specs.Read.{Got, Reader, got, fail, on, on-got, in-bounds, bounded, only, choose, pick, allApart, readBy, by-other, by-only}
-use Rattle.json.specs.Read.{readIn, readByte, readBytes, many, blankOf, readBlanks, blanks-read, Solid, solid-in, digitOf, readDigits, readSomeDigits}
+use Rattle.json.specs.Read.{readIn, readByte, readBytes, many, blankOf, readBlanks}
+use Rattle.json.specs.Read.{blanks-read, Solid, solid-in, digitOf, readDigits, readSomeDigits}
 use Rattle.json.specs.Read.{readMinus, readInt, readFrac, readExpSign, readPower, readExp, readNumber, NumberEnd, number-read}
 use Rattle.json.specs.Read.{readHex, readUnicode, readEscape, charCases, readChars, readRest, rest-read, readColon, readKey, key-read}
 
@@ -242,10 +243,11 @@ nothing-end = record { digits = refl; frac = λ f. refl; exp = λ f. refl }
 tree-back : (t : Tree) → readTree (text t) ≡ got t []
 unfolding readTree text readEnd
 tree-back t =
-    let v = putValue (t .value) (putBlanks (t .after) []) in
+    let u = putBlanks (t .after) [] in
+    let v = putValue (t .value) u in
     let b = length-blanks (t .before) v in
-    blanks-read (t .before) _ v (value-start (t .value) (putBlanks (t .after) []) .solid)
-    ∙ on-got _ (value-back (t .value) (length (putBlanks (t .before) v)) (putBlanks (t .after) []) (omega arith) (blanks-end (t .after) [] nothing-end))
+    blanks-read (t .before) _ v (value-start (t .value) u .solid)
+    ∙ on-got _ (value-back (t .value) (length (putBlanks (t .before) v)) u (omega arith) (blanks-end (t .after) [] nothing-end))
     ∙ blanks-read (t .after) _ [] solid-nothing
 
 -- the same bytes

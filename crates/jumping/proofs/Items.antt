@@ -39,8 +39,8 @@ same-place s a b h e = omega (arith, length-drop a s, length-drop b s, ap length
 
 -- an item is ahead; its value stands at v, its name from a to e
 module _ {q : List ℕ} {c : Compiled} {x : List Step} (holds : Holds q x c) {s : List ℕ} {whole : Tally} {z : Pile} {i : ℕ} {t : Tally} {d f m : ℕ}
-    {b : Bool} {v a e m′ : ℕ} {p : Bool} (due : ItemDue x s whole z i t d f m) (object : b ≡ eqb (getD (z .brackets) (d - 1) 0) 0x7B) (enters : EntersItem s i b v a e)
-    (advances : Advances q c m (slice a e s) b m′ p) where
+    {b : Bool} {v a e m′ : ℕ} {p : Bool} (due : ItemDue x s whole z i t d f m) (object : b ≡ eqb (getD (z .brackets) (d - 1) 0) 0x7B)
+    (enters : EntersItem s i b v a e) (advances : Advances q c m (slice a e s) b m′ p) where
   object-is : b ≡ eqb (due .o .bracket) 0x7B
   object-is =
       let y : d - 1 ≡ due .o .depth = omega (arith, due .level .depth) in
@@ -63,10 +63,11 @@ module _ {q : List ℕ} {c : Compiled} {x : List Step} (holds : Holds q x c) {s 
       let goal : Tally = tallied t (visits (next x) (y .v) (next x (o .state) l) v) in
       let marks : m′ ≡ nextMarks x (o .state .marks) l = moves .marks-are x holds l label ∙ ap (λ (n : ℕ). nextMarks x n l) (due .level .marks) in
       let picked : p ≡ nextPicked x (o .state .marks) l = moves .picked-is x holds l label ∙ ap (λ (n : ℕ). nextPicked x n l) (due .level .marks) in
+      let u = putValue (y .v) rest in
       let place : v ≡ at =
       g .0
       ∙ same-place s at (valueAt k i (y .w) (y .key)) (A.value-inside (next x) s (o .rest) k (o .state) (o .room) (o .inner) (o .end) i t y)
-      (here ∙ sym (past-key s (i + length (y .w)) k (y .key) (putValue (y .v) rest) (past-blanks s i (y .w) (putKey k (y .key) (putValue (y .v) rest)) (y .here)))) in
+      (here ∙ sym (past-key s (i + length (y .w)) k (y .key) u (past-blanks s i (y .w) (putKey k (y .key) u) (y .here)))) in
       record {
         state = next x (o .state) l;
         rest = rest;
@@ -90,13 +91,15 @@ module _ {q : List ℕ} {c : Compiled} {x : List Step} (holds : Holds q x c) {s 
             };
         after =
             item o (due .level)
-            (A.item-passed (next x) s (o .rest) k (o .state) (o .room) (o .inner) (o .end) i t y (v + size (y .v)) goal (ap (λ (n : ℕ). n + size (y .v)) place)
+            (A.item-passed (next x) s (o .rest) k (o .state) (o .room) (o .inner) (o .end) i t y (v + size (y .v)) goal
+            (ap (λ (n : ℕ). n + size (y .v)) place)
             (ap (λ (n : ℕ). tallied t (visits (next x) (y .v) (next x (o .state) l) n)) (sym place)))
             (due .after);
       }
 
 -- after a value in a container
-module _ {x : List Step} {s : List ℕ} {whole : Tally} {z : Pile} {i : ℕ} {t : Tally} {d f m c : ℕ} (inner : d ≡ 0 → ⊥) (blanks : EndsBlanks s i c) where
+module _ {x : List Step} {s : List ℕ} {whole : Tally} {z : Pile} {i : ℕ} {t : Tally} {d f m c : ℕ}
+    (inner : d ≡ 0 → ⊥) (blanks : EndsBlanks s i c) where
   -- something follows
   pub past-inside : Passed x s whole z i t d f m → c < length s
   past-inside (root h e1 e2 e3) = absurd (inner e1)

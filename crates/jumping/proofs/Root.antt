@@ -99,7 +99,8 @@ starts b r =
     }
 
 pub root-comes : {q : List ℕ} {c : Compiled} {x : List Step} {s list : List ℕ} {whole : Tally} {z : Pile} {a : Standing} → Holds q x c
-    → Due x s whole z list a → a .item ≡ true → a .depth ≡ 0 → ValueDue x s whole z (a .at) (tallyOf list a) (a .marks) (eqb (c .count) 0) (a .depth) (a .frames) (a .marks)
+    → Due x s whole z list a → a .item ≡ true → a .depth ≡ 0
+    → ValueDue x s whole z (a .at) (tallyOf list a) (a .marks) (eqb (c .count) 0) (a .depth) (a .frames) (a .marks)
 root-comes h d e f = rw (h .count) (d .root e f)
 
 -- fewer turns are left
@@ -142,7 +143,8 @@ pub record Running (q : List ℕ) (c : Compiled) (s : List ℕ) (z₀ : Pile) (l
   pub keeps : (x : List Step) → Holds q x c → (whole : Tally) → Due x s whole z₀ list₀ a₀ → Due x s whole z list a
 
 -- nothing is ahead once the root is passed
-passed-whole : {x : List Step} {s : List ℕ} {whole : Tally} {z : Pile} {i : ℕ} {t : Tally} {d f m : ℕ} → d ≡ 0 → Passed x s whole z i t d f m → t ≡ whole
+passed-whole : {x : List Step} {s : List ℕ} {whole : Tally} {z : Pile} {i : ℕ} {t : Tally} {d f m : ℕ}
+    → d ≡ 0 → Passed x s whole z i t d f m → t ≡ whole
 passed-whole e (root h e1 e2 e3) = e3
 passed-whole e (item o l a p) = absurd (omega (arith, l .depth))
 

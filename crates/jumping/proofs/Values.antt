@@ -109,8 +109,8 @@ pub value-inside : {x : List Step} {s : List ℕ} {whole : Tally} {z : Pile} {i 
     → ValueDue x s whole z i t m′ p d f m → i < length s
 value-inside {s = s} {i = i} v = starts-inside s (putValue (v .ahead .v) (v .rest)) i (starts-value (v .ahead .v) (v .rest)) (v .ahead .here)
 
-module _ {x : List Step} {s : List ℕ} {whole : Tally} {z : Pile} {i : ℕ} {l : List ℕ} {u h k m′ : ℕ} {p : Bool} {d f m : ℕ} {l′ : List ℕ} {u′ k′ w : ℕ}
-    (v : ValueDue x s whole z i (tally l u h k) m′ p d f m) (g : Begins p l u k i l′ u′ k′ w) where
+module _ {x : List Step} {s : List ℕ} {whole : Tally} {z : Pile} {i : ℕ} {l : List ℕ} {u h k m′ : ℕ} {p : Bool} {d f m : ℕ}
+    {l′ : List ℕ} {u′ k′ w : ℕ} (v : ValueDue x s whole z i (tally l u h k) m′ p d f m) (g : Begins p l u k i l′ u′ k′ w) where
   begun-is : begin (v .state .picked) (tally l u h k) i ≡ tally l′ u′ h k′
   begun-is = ap (λ (b : Bool). begin b (tally l u h k) i) (v .picked-is) ∙ g .begun h
 
@@ -170,7 +170,8 @@ has-frame v = omega (arith, v .fits, passed-few (v .after))
 
 -- bytes that no tree explains
 pub container-lost : {s : List ℕ} {z z′ : Pile} {l l′ : List ℕ} {v : Coming} {w : ℕ} {a r : Standing} → Lost (v .at) a r → v .at < length s
-    → a .frames ≤ maxDepth → ((x : List Step) (whole : Tally) → ContainerDue x s whole z (v .at) (tallyOf l a) w (v .marks) (a .depth) (a .frames) (a .marks) → ⊥)
+    → a .frames ≤ maxDepth
+    → ((x : List Step) (whole : Tally) → ContainerDue x s whole z (v .at) (tallyOf l a) w (v .marks) (a .depth) (a .frames) (a .marks) → ⊥)
     → PassesContainer s z z′ l l′ v w a r
 container-lost y h g n = record { onward = onward-lost y (omega arith) (omega arith) g; keeps = λ x whole d. absurd (n x whole d) }
 
@@ -210,12 +211,16 @@ module _ {x : List Step} {s : List ℕ} {whole : Tally} {z : Pile} {i : ℕ} {l 
   module _ {c : ℕ} (blanks : EndsBlanks s (i + 1) c) where
     -- something follows the opening bracket
     pub more-bytes : c < length s
-    more-bytes = items-inside (next x) s (v .rest) (kindAt (getD s i 0)) (v .state) (v .room) (v .inner) (v .end) (i + 1) c (tally l u h′ k) inside blanks
+    more-bytes =
+        items-inside (next x) s (v .rest) (kindAt (getD s i 0)) (v .state) (v .room) (v .inner) (v .end) (i + 1) c (tally l u h′ k)
+        inside blanks
 
     -- it has no items
     pub empty-due : classOf (getD s c 0) ≡ 2 → Passed x s whole z (c + 1) (finish w (c + 1) (tally l u h′ k)) d f m
     empty-due e =
-        let y = no-items (next x) s (v .rest) (kindAt (getD s i 0)) (v .state) (v .room) (v .inner) (v .end) (i + 1) c (tally l u h′ k) inside blanks e in
+        let y =
+        no-items (next x) s (v .rest) (kindAt (getD s i 0)) (v .state) (v .room) (v .inner) (v .end) (i + 1) c (tally l u h′ k)
+        inside blanks e in
         passed-as (sym (y .1)) (ap₂ (λ (n : ℕ) (t : Tally). finish w n t) (sym (y .1)) (y .0)) (v .after)
 
     -- it is entered
@@ -237,6 +242,8 @@ module _ {x : List Step} {s : List ℕ} {whole : Tally} {z : Pile} {i : ℕ} {l 
         record {
           o = o;
           level = level-new z o f′ m′ (passed-sized (v .after)) (passed-few (v .after)) (v .fits) frames-is (sym (v .marks-are)) g;
-          ahead = first-item (next x) s (v .rest) (kindAt (getD s i 0)) (v .state) (v .room) (v .inner) (v .end) (i + 1) c (tally l u h′ k) inside blanks e;
+          ahead =
+              first-item (next x) s (v .rest) (kindAt (getD s i 0)) (v .state) (v .room) (v .inner) (v .end) (i + 1) c (tally l u h′ k)
+              inside blanks e;
           after = passed-kept f d m w (getD s i 0) (omega arith) (omega arith) (v .after);
         }

@@ -48,8 +48,10 @@ pub record Upto (f : ℕ → Bool) (count h i : ℕ) : Type 0 where
 pub upto-none : (f : ℕ → Bool) (count : ℕ) → Upto f count 0 0
 upto-none f count = record { within = omega arith; below = λ j. bit-zero j ∙ sym (ap (λ (b : Bool). b && f j) (le-ltb j 0 (omega arith))) }
 
-pub upto-more : (f : ℕ → Bool) (count h i h′ : ℕ) (on : Bool) → i < count → Upto f count h i → on ≡ f i → ((j : ℕ) → bit j h′ ≡ (bit j h || (on && eqb j i))) → Upto f count h′ (i + 1)
-upto-more f count h i h′ on l u e b = record { within = omega arith; below = λ j. b j ∙ ap (λ (z : Bool). z || (on && eqb j i)) (u .below j) ∙ go j (eqb j i) refl }
+pub upto-more : (f : ℕ → Bool) (count h i h′ : ℕ) (on : Bool) → i < count → Upto f count h i → on ≡ f i
+    → ((j : ℕ) → bit j h′ ≡ (bit j h || (on && eqb j i))) → Upto f count h′ (i + 1)
+upto-more f count h i h′ on l u e b =
+    record { within = omega arith; below = λ j. b j ∙ ap (λ (z : Bool). z || (on && eqb j i)) (u .below j) ∙ go j (eqb j i) refl }
   where
     go : (j : ℕ) (z : Bool) → eqb j i ≡ z → ((ltb j i && f j) || (on && z)) ≡ (ltb j (i + 1) && f j)
     go j true g =

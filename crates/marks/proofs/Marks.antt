@@ -40,9 +40,10 @@ unfolding stepHits hits
 hits-member none w = refl
 hits-member (some s) w = go (s .selector)
   where
-    go : (sel : Selector) →
-        (everyAt (some (record { deep = s .deep; selector = sel })) || (namedAt (some (record { deep = s .deep; selector = sel })) && sameName (nameAt (some (record { deep = s .deep; selector = sel }))) w))
-        ≡ hits sel (member w)
+    by : Selector → Option Step
+    by sel = some (record { deep = s .deep; selector = sel })
+
+    go : (sel : Selector) → (everyAt (by sel) || (namedAt (by sel) && sameName (nameAt (by sel)) w)) ≡ hits sel (member w)
     go (S.name v) = refl
     go S.every = refl
 
@@ -62,32 +63,41 @@ module _ (q : List ℕ) (c : Compiled) (m : ℕ) (name : List ℕ) where
   pub taken-element : (o : Bool) → o ≡ false → Taken q c m name o (bitAnd m (c .every))
   taken-element o e = rw e (record { taken = λ x h l i. go x h l i })
     where
-      go : (x : List Step) → Holds q x c → (l : Label) → LabelIs name false l → (i : ℕ) → bit i (bitAnd m (c .every)) ≡ (bit i m && stepHits (getElem? x i) l)
+      go : (x : List Step) → Holds q x c → (l : Label) → LabelIs name false l → (i : ℕ)
+          → bit i (bitAnd m (c .every)) ≡ (bit i m && stepHits (getElem? x i) l)
       go x h l (by-position j) i = bit-and i m (c .every) ∙ ap (λ (b : Bool). bit i m && b) (h .every i ∙ hits-element (getElem? x i) j)
 
   -- no mark of a step with a name is on
   pub taken-every : (o : Bool) → o ≡ true → bitAnd m (c .named) ≡ 0 → Taken q c m name o (bitAnd m (c .every))
   taken-every o e z = rw e (record { taken = λ x h l i. go x h l i })
     where
-      go : (x : List Step) → Holds q x c → (l : Label) → LabelIs name true l → (i : ℕ) → bit i (bitAnd m (c .every)) ≡ (bit i m && stepHits (getElem? x i) l)
+      go : (x : List Step) → Holds q x c → (l : Label) → LabelIs name true l → (i : ℕ)
+          → bit i (bitAnd m (c .every)) ≡ (bit i m && stepHits (getElem? x i) l)
       go x h l by-name i =
-          let none-on : (bit i m && namedAt (getElem? x i)) ≡ false = ap (λ (b : Bool). bit i m && b) (sym (h .named i)) ∙ sym (bit-and i m (c .named)) ∙ ap (bit i) z ∙ bit-zero i in
+          let none-on : (bit i m && namedAt (getElem? x i)) ≡ false =
+          ap (λ (b : Bool). bit i m && b) (sym (h .named i)) ∙ sym (bit-and i m (c .named)) ∙ ap (bit i) z ∙ bit-zero i in
+          let same = sameName (nameAt (getElem? x i)) name in
           bit-and i m (c .every)
           ∙ ap (λ (b : Bool). bit i m && b) (h .every i)
           ∙ sym (or-false (bit i m && everyAt (getElem? x i)))
-          ∙ ap (λ (b : Bool). (bit i m && everyAt (getElem? x i)) || b) (sym (ap (λ (b : Bool). b && sameName (nameAt (getElem? x i)) name) none-on))
-          ∙ truth 4 (λ a b d e. (a && b) || ((a && d) && e)) (λ a b d e. a && (b || (d && e))) tt (bit i m) (everyAt (getElem? x i)) (namedAt (getElem? x i)) (sameName (nameAt (getElem? x i)) name)
+          ∙ ap (λ (b : Bool). (bit i m && everyAt (getElem? x i)) || b) (sym (ap (λ (b : Bool). b && same) none-on))
+          ∙ truth 4 (λ a b d e. (a && b) || ((a && d) && e)) (λ a b d e. a && (b || (d && e))) tt
+          (bit i m) (everyAt (getElem? x i)) (namedAt (getElem? x i)) same
           ∙ ap (λ (b : Bool). bit i m && b) (hits-member (getElem? x i) name)
 
   -- the names of the others are compared
-  pub taken-named : (o : Bool) (r : ℕ) → o ≡ true → ((i : ℕ) → bit i r ≡ (ltb i (c .count) && namedHit q c (bitAnd m (c .named)) name i)) → Taken q c m name o (bitOr (bitAnd m (c .every)) r)
+  pub taken-named : (o : Bool) (r : ℕ) → o ≡ true → ((i : ℕ) → bit i r ≡ (ltb i (c .count) && namedHit q c (bitAnd m (c .named)) name i))
+      → Taken q c m name o (bitOr (bitAnd m (c .every)) r)
   unfolding namedHit
   taken-named o r e f = rw e (record { taken = λ x h l i. go x h l i })
     where
-      named-is : (x : List Step) → Holds q x c → (i : ℕ) → bit i r ≡ (bit i m && (namedAt (getElem? x i) && sameName (nameAt (getElem? x i)) name))
+      hit-by : List Step → ℕ → Bool
+      hit-by x i = namedAt (getElem? x i) && sameName (nameAt (getElem? x i)) name
+
+      named-is : (x : List Step) → Holds q x c → (i : ℕ) → bit i r ≡ (bit i m && hit-by x i)
       named-is x h i = f i ∙ ⊎-elim inside outside (lt-or-ge i (c .count))
         where
-          inside : i < c .count → (ltb i (c .count) && namedHit q c (bitAnd m (c .named)) name i) ≡ (bit i m && (namedAt (getElem? x i) && sameName (nameAt (getElem? x i)) name))
+          inside : i < c .count → (ltb i (c .count) && namedHit q c (bitAnd m (c .named)) name i) ≡ (bit i m && hit-by x i)
           inside l =
               ap (λ (b : Bool). b && namedHit q c (bitAnd m (c .named)) name i) (lt-ltb i (c .count) l)
               ∙ ap₂ (λ (a : Bool) (w : List ℕ). a && sameName w name)
@@ -95,17 +105,20 @@ module _ (q : List ℕ) (c : Compiled) (m : ℕ) (name : List ℕ) where
               (h .name i (omega (arith, h .count, h .few)))
               ∙ and-assoc (bit i m) (namedAt (getElem? x i)) (sameName (nameAt (getElem? x i)) name)
 
-          outside : c .count ≤ i → (ltb i (c .count) && namedHit q c (bitAnd m (c .named)) name i) ≡ (bit i m && (namedAt (getElem? x i) && sameName (nameAt (getElem? x i)) name))
+          outside : c .count ≤ i → (ltb i (c .count) && namedHit q c (bitAnd m (c .named)) name i) ≡ (bit i m && hit-by x i)
           outside l =
               ap (λ (b : Bool). b && namedHit q c (bitAnd m (c .named)) name i) (le-ltb i (c .count) l)
               ∙ sym (and-false (bit i m))
-              ∙ ap (λ (o : Option Step). bit i m && (namedAt o && sameName (nameAt o) name)) (sym (no-step x i (omega (arith, h .count))))
+              ∙ ap (λ (o : Option Step). bit i m && (namedAt o && sameName (nameAt o) name))
+              (sym (no-step x i (omega (arith, h .count))))
 
-      go : (x : List Step) → Holds q x c → (l : Label) → LabelIs name true l → (i : ℕ) → bit i (bitOr (bitAnd m (c .every)) r) ≡ (bit i m && stepHits (getElem? x i) l)
+      go : (x : List Step) → Holds q x c → (l : Label) → LabelIs name true l → (i : ℕ)
+          → bit i (bitOr (bitAnd m (c .every)) r) ≡ (bit i m && stepHits (getElem? x i) l)
       go x h l by-name i =
           bit-or i (bitAnd m (c .every)) r
           ∙ ap₂ (λ (a b : Bool). a || b) (bit-and i m (c .every) ∙ ap (λ (b : Bool). bit i m && b) (h .every i)) (named-is x h i)
-          ∙ truth 4 (λ a b d e. (a && b) || (a && (d && e))) (λ a b d e. a && (b || (d && e))) tt (bit i m) (everyAt (getElem? x i)) (namedAt (getElem? x i)) (sameName (nameAt (getElem? x i)) name)
+          ∙ truth 4 (λ a b d e. (a && b) || (a && (d && e))) (λ a b d e. a && (b || (d && e))) tt
+          (bit i m) (everyAt (getElem? x i)) (namedAt (getElem? x i)) (sameName (nameAt (getElem? x i)) name)
           ∙ ap (λ (b : Bool). bit i m && b) (hits-member (getElem? x i) name)
 
 -- no steps: no marks, and no child is picked out
@@ -127,28 +140,37 @@ mask-positive n h = rw (mask-is n h) (pow-pos n)
 pub mask-fits : (n : ℕ) → n ≤ 16 → 1 * 2 ^ n % 2 ^ 32 - 1 < 2 ^ 16
 mask-fits n h = rw (mask-is n h) (omega (arith, pow-pos n, pow-mono {i = n} {j = 16} h))
 
-module _ (q : List ℕ) (c : Compiled) (m : ℕ) (name : List ℕ) (o : Bool) (t : ℕ) (got : Taken q c m name o t) (few : c .count ≤ 16) (some-steps : c .count ≡ 0 → ⊥) where
+module _ (q : List ℕ) (c : Compiled) (m : ℕ) (name : List ℕ) (o : Bool) (t : ℕ) (got : Taken q c m name o t)
+    (few : c .count ≤ 16) (some-steps : c .count ≡ 0 → ⊥) where
+  -- the marks that go one step on and those that stay, before the mask
+  abbrev unmasked : ℕ
+  unmasked = bitOr (t * 2 ^ 1 % 2 ^ 16) (bitAnd m (c .deep))
+
   module _ (x : List Step) (h : Holds q x c) (l : Label) (w : LabelIs name o l) where
     kept : (i : ℕ) → bit i (bitAnd m (c .deep)) ≡ (isDeep (getElem? x i) && bit i m)
-    kept i = bit-and i m (c .deep) ∙ ap (λ (b : Bool). bit i m && b) (h .deep i ∙ deep-is (getElem? x i)) ∙ and-comm (bit i m) (isDeep (getElem? x i))
+    kept i =
+        bit-and i m (c .deep)
+        ∙ ap (λ (b : Bool). bit i m && b) (h .deep i ∙ deep-is (getElem? x i))
+        ∙ and-comm (bit i m) (isDeep (getElem? x i))
 
-    moved : (i : ℕ) → i < 16 → bit i (bitOr (t * 2 ^ 1 % 2 ^ 16) (bitAnd m (c .deep))) ≡ (shifted 1 (λ j. bit j t) i || (isDeep (getElem? x i) && bit i m))
+    moved : (i : ℕ) → i < 16 → bit i unmasked ≡ (shifted 1 (λ j. bit j t) i || (isDeep (getElem? x i) && bit i m))
     moved i k = bit-or i (t * 2 ^ 1 % 2 ^ 16) (bitAnd m (c .deep)) ∙ ap₂ (λ (a b : Bool). a || b) (bit-shl 16 1 i t k) (kept i)
 
-    next-bit : (i : ℕ) → i < length x → bit i (bitOr (t * 2 ^ 1 % 2 ^ 16) (bitAnd m (c .deep))) ≡ nextMark x m l i
+    next-bit : (i : ℕ) → i < length x → bit i unmasked ≡ nextMark x m l i
     unfolding nextMark shifted
     next-bit zero k = moved 0 (omega arith)
     next-bit (suc i) k =
         moved (suc i) (omega (arith, h .few))
-        ∙ ap (λ (b : Bool). b || (isDeep (getElem? x (suc i)) && bit (suc i) m)) (got .taken x h l w i ∙ and-comm (bit i m) (stepHits (getElem? x i) l))
+        ∙ ap (λ (b : Bool). b || (isDeep (getElem? x (suc i)) && bit (suc i) m))
+        (got .taken x h l w i ∙ and-comm (bit i m) (stepHits (getElem? x i) l))
 
-    marks-next : bitAnd (bitOr (t * 2 ^ 1 % 2 ^ 16) (bitAnd m (c .deep))) (1 * 2 ^ c .count % 2 ^ 32 - 1) ≡ nextMarks x m l
+    marks-next : bitAnd unmasked (1 * 2 ^ c .count % 2 ^ 32 - 1) ≡ nextMarks x m l
     unfolding nextMarks
     marks-next =
-        ap (λ (n : ℕ). bitAnd (bitOr (t * 2 ^ 1 % 2 ^ 16) (bitAnd m (c .deep))) (n - 1)) (mask-is (c .count) few)
-        ∙ and-mask (bitOr (t * 2 ^ 1 % 2 ^ 16) (bitAnd m (c .deep))) (c .count)
-        ∙ ap (λ (n : ℕ). bitOr (t * 2 ^ 1 % 2 ^ 16) (bitAnd m (c .deep)) % 2 ^ n) (h .count)
-        ∙ number-of (length x) (bitOr (t * 2 ^ 1 % 2 ^ 16) (bitAnd m (c .deep))) (nextMark x m l) next-bit
+        ap (λ (n : ℕ). bitAnd unmasked (n - 1)) (mask-is (c .count) few)
+        ∙ and-mask unmasked (c .count)
+        ∙ ap (λ (n : ℕ). unmasked % 2 ^ n) (h .count)
+        ∙ number-of (length x) unmasked (nextMark x m l) next-bit
 
     picked-next : eqb (bitAnd (t / 2 ^ (c .count - 1)) 1) 1 ≡ nextPicked x m l
     unfolding nextPicked pickAt
@@ -160,5 +182,6 @@ module _ (q : List ℕ) (c : Compiled) (m : ℕ) (name : List ℕ) (o : Bool) (t
             let last : c .count - 1 ≡ k = omega arith in
             ap (λ (i : ℕ). bit i m && stepHits (getElem? x i) l) last ∙ and-comm (bit k m) (stepHits (getElem? x k) l)
 
-  pub advances : Advances q c m name o (bitAnd (bitOr (t * 2 ^ 1 % 2 ^ 16) (bitAnd m (c .deep))) (1 * 2 ^ c .count % 2 ^ 32 - 1)) (eqb (bitAnd (t / 2 ^ (c .count - 1)) 1) 1)
+  pub advances :
+      Advances q c m name o (bitAnd unmasked (1 * 2 ^ c .count % 2 ^ 32 - 1)) (eqb (bitAnd (t / 2 ^ (c .count - 1)) 1) 1)
   advances = record { marks-are = λ x h l w. marks-next x h l w; picked-is = λ x h l w. picked-next x h l w }

@@ -17,7 +17,8 @@ is-not true f = absurd (f refl)
 is-not false f = refl
 
 -- names of different lengths differ
-pub differs : (q : List ℕ) (from to : ℕ) (s : List ℕ) (x y : ℕ) → to ≤ length q → y ≤ length s → (to - from ≡ y - x → ⊥) → false ≡ sameName (slice from to q) (slice x y s)
+pub differs : (q : List ℕ) (from to : ℕ) (s : List ℕ) (x y : ℕ) → to ≤ length q → y ≤ length s → (to - from ≡ y - x → ⊥)
+    → false ≡ sameName (slice from to q) (slice x y s)
 differs q from to s x y h k f =
     is-not (sameName (slice from to q) (slice x y s))
     (λ e. f (sym (length-slice from to q h) ∙ ap length (sameName-is (slice from to q) (slice x y s) .0 e) ∙ length-slice x y s k))
@@ -38,7 +39,8 @@ pub record Agree (q : List ℕ) (from to : ℕ) (s : List ℕ) (x y i j : ℕ) :
   pub same : sameName (slice from to q) (slice x y s) ≡ sameName (slice i to q) (slice j y s)
 
 module _ {q : List ℕ} {from to : ℕ} {s : List ℕ} {x y i j : ℕ} (b : to ≤ length q) (d : y ≤ length s) (v : Agree q from to s x y i j) where
-  left-over : i < to → sameName (slice from to q) (slice x y s) ≡ (eqb (getD q i 0) (getD s j 0) && sameName (slice (i + 1) to q) (slice (j + 1) y s))
+  left-over : i < to
+      → sameName (slice from to q) (slice x y s) ≡ (eqb (getD q i 0) (getD s j 0) && sameName (slice (i + 1) to q) (slice (j + 1) y s))
   left-over a = v .same ∙ step q i to s j y a b (omega (arith, v .equal)) d
 
   pub agree-on : i < to → getD q i 0 ≡ getD s j 0 → Agree q from to s x y (i + 1) (j + 1)
@@ -51,7 +53,8 @@ module _ {q : List ℕ} {from to : ℕ} {s : List ℕ} {x y i j : ℕ} (b : to �
       }
 
   pub agree-no : i < to → (getD q i 0 ≡ getD s j 0 → ⊥) → false ≡ sameName (slice from to q) (slice x y s)
-  agree-no a e = sym (left-over a ∙ ap (λ (k : Bool). k && sameName (slice (i + 1) to q) (slice (j + 1) y s)) (ne-eqb (getD q i 0) (getD s j 0) e))
+  agree-no a e =
+      sym (left-over a ∙ ap (λ (k : Bool). k && sameName (slice (i + 1) to q) (slice (j + 1) y s)) (ne-eqb (getD q i 0) (getD s j 0) e))
 
   pub agree-all : to ≤ i → true ≡ sameName (slice from to q) (slice x y s)
   unfolding sameName

@@ -29,7 +29,8 @@ use Rattle.automaton.specs.Halves.{endPair, finish, waiting, begin}
 use Rattle.marks.specs.Advances.{LabelIs, by-name, by-position, Advances}
 use Rattle.pairs.specs.Pairs.{tally, Begins, Raises}
 use Rattle.walk.specs.Ahead.{valueAt, ItemAhead, MoreAhead, ItemsAhead, ValueAhead}
-use Rattle.walk.specs.AheadLaws.{items-inside, no-items, first-item, item-value, value-here, value-inside as item-inside, value-stopped, key-solid, item-passed, more-inside, no-more, next-item}
+use Rattle.walk.specs.AheadLaws.{items-inside, no-items, first-item, item-value, value-here, value-inside as item-inside}
+use Rattle.walk.specs.AheadLaws.{value-stopped, key-solid, item-passed, more-inside, no-more, next-item}
 use Rattle.walk.specs.ValueLaws.{scalar-passed, container-entered}
 use Rattle.walk.specs.Walks.{Walks}
 use Rattle.plain.specs.Plain.{Starts, EntersChild, WalksValue, WalksItems}
@@ -63,13 +64,15 @@ unfolding frameIf
 frame-more true k = omega arith
 frame-more false k = omega arith
 
-label-is : (s : List ℕ) (o : Bool) (key : Key (kindIf o)) (j x y : ℕ) → NameAt (kindIf o) key s x y → LabelIs (slice x y s) o (labelOf (kindIf o) key j)
+label-is : (s : List ℕ) (o : Bool) (key : Key (kindIf o)) (j x y : ℕ) → NameAt (kindIf o) key s x y
+    → LabelIs (slice x y s) o (labelOf (kindIf o) key j)
 unfolding labelOf
 label-is s true key j x y h = rw h by-name
 label-is s false key j x y h = by-position j
 
 pub enters-child : {q : List ℕ} {c : Compiled} {s : List ℕ} {a : ℕ} {o : Bool} {st : State} {v x y m : ℕ} {p : Bool} {k : ℕ}
-    → EntersItem s a o v x y → Advances q c (st .marks) (slice x y s) o m p → k ≡ frameIf (eqb (st .marks) m) (st .frames) → EntersChild q c s a o st v (state m p k)
+    → EntersItem s a o v x y → Advances q c (st .marks) (slice x y s) o m p → k ≡ frameIf (eqb (st .marks) m) (st .frames)
+    → EntersChild q c s a o st v (state m p k)
 unfolding next
 enters-child {q} {c} {s} {a} {o} {st} {v} {x} {y} {m} {p} {k} item moved framed =
     record {
@@ -83,7 +86,8 @@ enters-child {q} {c} {s} {a} {o} {st} {v} {x} {y} {m} {p} {k} item moved framed 
     }
 
 -- a value that is ahead has a first byte
-value-inside : {next′ : State → Label → State} {s rest : List ℕ} {st : State} {n : ℕ} {goal t : Tally} {end a : ℕ} → ValueAhead next′ s rest st n goal end a t → length s ≤ a → ⊥
+value-inside : {next′ : State → Label → State} {s rest : List ℕ} {st : State} {n : ℕ} {goal t : Tally} {end a : ℕ}
+    → ValueAhead next′ s rest st n goal end a t → length s ≤ a → ⊥
 unfolding starts
 value-inside {s = s} {rest = rest} {a = a} v l = go (drop a s) refl
   where
@@ -96,12 +100,14 @@ same-place : (s : List ℕ) (a b : ℕ) → a < length s → drop a s ≡ drop b
 same-place s a b h e = omega (arith, length-drop a s, length-drop b s, ap length e)
 
 -- the place of an item's value, after blanks and its key
-item-value-is : (next′ : State → Label → State) (s rest : List ℕ) (k : Kind) (st : State) (n : ℕ) (goal : Tally) (end i : ℕ) (t : Tally) (x : ItemAhead next′ s rest k st n goal end i t)
+item-value-is : (next′ : State → Label → State) (s rest : List ℕ) (k : Kind) (st : State) (n : ℕ) (goal : Tally) (end i : ℕ) (t : Tally)
+    (x : ItemAhead next′ s rest k st n goal end i t)
     → valueAt k i (x .w) (x .key) ≡ item-value next′ s rest k st n goal end i t x
 item-value-is next′ s rest k st n goal end i t x =
     let u : List ℕ = putValue (x .v) (putMore (x .m) rest) in
     same-place s (item-value next′ s rest k st n goal end i t x) (valueAt k i (x .w) (x .key)) (item-inside next′ s rest k st n goal end i t x)
-    (value-here next′ s rest k st n goal end i t x ∙ sym (past-key s (i + length (x .w)) k (x .key) u (past-blanks s i (x .w) (putKey k (x .key) u) (x .here))))
+    (value-here next′ s rest k st n goal end i t x
+    ∙ sym (past-key s (i + length (x .w)) k (x .key) u (past-blanks s i (x .w) (putKey k (x .key) u) (x .here))))
 
 -- the end goes into the pair that waits
 ended : {w wait : ℕ} (e : ℕ) (l : List ℕ) {l′ : List ℕ} {u h p : ℕ} → w ≡ wait → l′ ≡ endPair wait e l → tally l′ u h p ≡ finish w e (tally l u h p)
@@ -135,7 +141,8 @@ module _ {q : List ℕ} {c : Compiled} {s : List ℕ} {a n : ℕ} {st : State} w
         }
 
     pub value-container : {peak′ used″ peak″ stop″ : ℕ} {list″ last : List ℕ} {e : ℕ} → classOf (getD s a 0) ≡ 1
-        → Raises peak (st .frames) stop′ peak′ → WalksItems q c s (a + 1) (n - 1) (eqb (getD s a 0) 0x7B) st (tally list′ used′ peak′ stop′) (tally list″ used″ peak″ stop″) e
+        → Raises peak (st .frames) stop′ peak′
+        → WalksItems q c s (a + 1) (n - 1) (eqb (getD s a 0) 0x7B) st (tally list′ used′ peak′ stop′) (tally list″ used″ peak″ stop″) e
         → last ≡ endPair wait e list″
         → WalksValue q c s a n st (tally list used peak stop) (tally last used″ peak″ stop″) e
     value-container {peak′ = peak′} {list″ = list″} {e = e} f r h d =
@@ -145,9 +152,11 @@ module _ {q : List ℕ} {c : Compiled} {s : List ℕ} {a n : ℕ} {st : State} w
           within = h .within;
           exact = λ x g rest goal end v.
               let y = container-entered (next x) s rest st n goal end a t v f in
-              let z : raised (st .frames) (begin (st .picked) t a) ≡ tally list′ used′ peak′ stop′ = ap (raised (st .frames)) (begun .begun peak) ∙ r .raises list′ used′ in
+              let z : raised (st .frames) (begin (st .picked) t a) ≡ tally list′ used′ peak′ stop′ =
+              ap (raised (st .frames)) (begun .begun peak) ∙ r .raises list′ used′ in
               let i = h .exact x g rest (y .inner) end (rw z at (y .ahead)) in
-              (ended e list″ (begun .waits peak) d ∙ ap₂ (λ (b : ℕ) (w : Tally). finish (waiting (st .picked) t) b w) (i .1) (i .0) ∙ y .closes, i .1);
+              let finished = ap₂ (λ (b : ℕ) (w : Tally). finish (waiting (st .picked) t) b w) (i .1) (i .0) in
+              (ended e list″ (begun .waits peak) d ∙ finished ∙ y .closes, i .1);
         }
 
 -- a query q compiled into c, a record s, and the items of a container from a on, with its state st and n levels that may be opened
@@ -192,7 +201,8 @@ module _ {q : List ℕ} {c : Compiled} {s : List ℕ} {a n : ℕ} {o : Bool} {st
       }
 
   -- an item's value is entered and walked
-  pub item-walked : {i v e : ℕ} {st′ : State} {u u′ : Tally} → AtItem q c s a n o st t i u → EntersChild q c s i o st v st′ → WalksValue q c s v n st′ u u′ e → AtMore q c s a n o st t e u′
+  pub item-walked : {i v e : ℕ} {st′ : State} {u u′ : Tally} → AtItem q c s a n o st t i u → EntersChild q c s i o st v st′
+      → WalksValue q c s v n st′ u u′ e → AtMore q c s a n o st t e u′
   item-walked {i} {v} {e} {st′} {u} {u′} p h w =
       record {
         onward = omega (arith, p .onward, h .onward, w .onward);
@@ -227,7 +237,8 @@ module _ {q : List ℕ} {c : Compiled} {s : List ℕ} {a n : ℕ} {o : Bool} {st
             absurd (omega (arith, more-inside (next x) s rest (kindIf o) st n goal end i j u (p .exact x f rest goal end v) b));
       }
 
-  pub more-none : {i j : ℕ} {u : Tally} → AtMore q c s a n o st t i u → EndsBlanks s i j → j < length s → (getD s j 0 ≡ 0x2C → ⊥) → WalksItems q c s a n o st t u (j + 1)
+  pub more-none : {i j : ℕ} {u : Tally} → AtMore q c s a n o st t i u → EndsBlanks s i j → j < length s → (getD s j 0 ≡ 0x2C → ⊥)
+      → WalksItems q c s a n o st t u (j + 1)
   more-none {i} {j} {u} p b l e =
       record {
         onward = omega (arith, p .onward, b .onward);
@@ -236,7 +247,8 @@ module _ {q : List ℕ} {c : Compiled} {s : List ℕ} {a n : ℕ} {o : Bool} {st
             let y = no-more (next x) s rest (kindIf o) st n goal end i j u (p .exact x f rest goal end v) b e in (y .0, sym (y .1));
       }
 
-  pub more-again : {i j : ℕ} {u : Tally} → AtMore q c s a n o st t i u → EndsBlanks s i j → j < length s → getD s j 0 ≡ 0x2C → AtItem q c s a n o st t (j + 1) u
+  pub more-again : {i j : ℕ} {u : Tally} → AtMore q c s a n o st t i u → EndsBlanks s i j → j < length s → getD s j 0 ≡ 0x2C
+      → AtItem q c s a n o st t (j + 1) u
   more-again {i} {j} {u} p b l e =
       record {
         onward = omega (arith, p .onward, b .onward);

@@ -39,17 +39,20 @@ module _ (q : List ℕ) (c : Compiled) (s : List ℕ) where
     pub within : v ≤ length s
     pub one-more : st′ .frames ≤ st .frames + 1
     pub exact : (x : List Step) → Holds q x c
-        → (w : Blanks) (key : Key (kindIf isObject)) (rest : List ℕ) → drop a s ≡ putBlanks w (putKey (kindIf isObject) key rest) → solid rest ≡ true
+        → (w : Blanks) (key : Key (kindIf isObject)) (rest : List ℕ)
+        → drop a s ≡ putBlanks w (putKey (kindIf isObject) key rest) → solid rest ≡ true
         → (j : ℕ) → (v ≡ valueAt (kindIf isObject) a w key) × (st′ ≡ next x st (labelOf (kindIf isObject) key j))
 
   -- a value at a is walked, with the state st and n levels that may be opened: from the tally t to t′, up to place e
   pub record WalksValue (a n : ℕ) (st : State) (t t′ : Tally) (e : ℕ) : Type 0 where
     pub onward : a ≤ e
     pub within : e ≤ length s
-    pub exact : (x : List Step) → Holds q x c → (rest : List ℕ) (goal : Tally) (end : ℕ) → ValueAhead (next x) s rest st n goal end a t → (t′ ≡ goal) × (e ≡ end)
+    pub exact : (x : List Step) → Holds q x c → (rest : List ℕ) (goal : Tally) (end : ℕ)
+        → ValueAhead (next x) s rest st n goal end a t → (t′ ≡ goal) × (e ≡ end)
 
   -- the items of a container with the state st are walked, from the place after its opening bracket to that after its closing one
   pub record WalksItems (a n : ℕ) (isObject : Bool) (st : State) (t t′ : Tally) (e : ℕ) : Type 0 where
     pub onward : a ≤ e
     pub within : e ≤ length s
-    pub exact : (x : List Step) → Holds q x c → (rest : List ℕ) (goal : Tally) (end : ℕ) → ItemsAhead (next x) s rest (kindIf isObject) st n goal end a t → (t′ ≡ goal) × (e ≡ end)
+    pub exact : (x : List Step) → Holds q x c → (rest : List ℕ) (goal : Tally) (end : ℕ)
+        → ItemsAhead (next x) s rest (kindIf isObject) st n goal end a t → (t′ ≡ goal) × (e ≡ end)

@@ -185,24 +185,17 @@ fn walk_items(
             list,
             sum,
         );
-        let more = walked.counts;
-        sum = more;
-        let next = scan::skip_blanks(record, walked.end);
-        if next >= record.len() {
-            return Walked {
-                end: next,
-                counts: sum,
-            };
+        sum = walked.counts;
+        let end = scan::skip_blanks(record, walked.end);
+        if end >= record.len() {
+            return Walked { end, counts: sum };
         }
-        let byte = record[next];
-        let after = next + 1;
+        let byte = record[end];
+        let end = end + 1;
         if byte != COMMA {
-            return Walked {
-                end: after,
-                counts: sum,
-            };
+            return Walked { end, counts: sum };
         }
-        i = after;
+        i = end;
     }
 }
 

@@ -83,8 +83,10 @@ decimal-value = by-digits (λ n. valueOf (decimal n) ≡ n) small more
 
     more : (n : ℕ) → 10 ≤ n → valueOf (decimal (n / 10)) ≡ n / 10 → valueOf (decimal n) ≡ n
     more n h e =
-        let s : readOn 0 (decimal n) ≡ readOn (n / 10) (digit (n % 10) ∷ [])
-        = ap (readOn 0) (decimal-more n h) ∙ read-append 0 (decimal (n / 10)) (digit (n % 10) ∷ []) ∙ ap (λ (k : ℕ). readOn k (digit (n % 10) ∷ [])) e in
+        let s : readOn 0 (decimal n) ≡ readOn (n / 10) (digit (n % 10) ∷ []) =
+        ap (readOn 0) (decimal-more n h)
+        ∙ read-append 0 (decimal (n / 10)) (digit (n % 10) ∷ [])
+        ∙ ap (λ (k : ℕ). readOn k (digit (n % 10) ∷ [])) e in
         s ∙ omega arith
 
 -- its bytes are digits

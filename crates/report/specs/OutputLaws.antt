@@ -104,7 +104,8 @@ module _ {i n : ℕ} {l text : List ℕ} {at : ℕ} {before : List ℕ} {end : �
       }
 
   pub left-done : n ≤ i → Left i n l text at before end buffer → Written text at before buffer end
-  left-done h left = left .completes buffer end (rw (lines-done i n l h) (record { end-is = sym (add-zero end); after-is = sym (put-none end buffer) }))
+  left-done h left =
+      left .completes buffer end (rw (lines-done i n l h) (record { end-is = sym (add-zero end); after-is = sym (put-none end buffer) }))
 
 pub left-all : (n : ℕ) (l : List ℕ) (at : ℕ) (before : List ℕ) → Room (pairLines 0 n l) at before → Left 0 n l (pairLines 0 n l) at before at before
 left-all n l at before room =

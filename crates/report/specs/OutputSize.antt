@@ -29,7 +29,8 @@ use Rattle.select.specs.PickedIs.{picked-is}
 use Rattle.select.specs.SpansAre.{spans-are}
 use Rattle.select.specs.Stands.{node-bytes}
 use Rattle.select.specs.Order.{first-before-end}
-use Rattle.answers.specs.Lister.{pairsOf, orElse, inputVerdict, spansOf, spansIn, leftOver, listVerdict, verdict, writtenIf, written, flat, ground, place, pairs, listAfter}
+use Rattle.answers.specs.Lister.{pairsOf, orElse, inputVerdict, spansOf, spansIn, leftOver, listVerdict}
+use Rattle.answers.specs.Lister.{verdict, writtenIf, written, flat, ground, place, pairs, listAfter}
 use Rattle.report.specs.Decimal.{decimal}
 use Rattle.report.specs.DecimalLaws.{decimal-length}
 use Rattle.report.specs.Output.{maxPairs, queryIn, recordIn, line, matches, refusal, report, reportOn, freshList, maxInput, picklistOutput}
@@ -200,7 +201,13 @@ taken-size : (n : ℕ) (l : List ℕ) → n ≤ maxPairs → Low maxInput l → 
 taken-size n l h low = omega (arith, matches-size l 5 (λ j. decimal-length 4 (getD l j 0) (omega (arith, low j))) n h)
 
 refused-size : (g p : ℕ) → g < 10 → p ≤ maxInput → length (refusal g p) ≤ maxOutput
-refused-size g p a b = omega (arith, three-length (ascii "refused") (decimal g) (decimal p), decimal-length 0 g (omega arith), decimal-length 4 p (omega arith))
+refused-size g p a b =
+    omega (
+      arith,
+      three-length (ascii "refused") (decimal g) (decimal p),
+      decimal-length 0 g (omega arith),
+      decimal-length 4 p (omega arith),
+    )
 
 report-size : (g p n : ℕ) (l : List ℕ) → g < 10 → p ≤ maxInput → n ≤ maxPairs → Low maxInput l → length (report g p n l) ≤ maxOutput
 unfolding report

@@ -9,7 +9,8 @@ use lib.Seq.{getD-drop, drop-drop}
 use Rattle.encoding.specs.Ascii.{ascii}
 use Rattle.encoding.specs.Verdict.{Verdict}
 use Rattle.select.specs.Ways.{Span}
-use Rattle.answers.specs.Lister.{pairsOf, orElse, inputVerdict, spansIn, leftOver, listVerdict, verdict, writtenIf, written, flat, ground, place, pairs, listAfter}
+use Rattle.answers.specs.Lister.{pairsOf, orElse, inputVerdict, spansIn, leftOver, listVerdict, verdict}
+use Rattle.answers.specs.Lister.{writtenIf, written, flat, ground, place, pairs, listAfter}
 use Rattle.report.specs.Decimal.{decimal}
 use Rattle.report.specs.Output.{line, pairLine, pairLines, matches, reportOn, freshList}
 use Rattle.report.specs.OutputLaws.{report-taken}
@@ -20,7 +21,8 @@ unfolding line decimal
 nodeLines n [] = []
 nodeLines n (x ∷ xs) = line (decimal n) (decimal (x .first) ∷ decimal (x .end) ∷ []) ++ nodeLines (n + 1) xs
 
-nodes-more : (n : ℕ) (x : Span) (xs : List Span) → nodeLines n (x ∷ xs) ≡ line (decimal n) (decimal (x .first) ∷ decimal (x .end) ∷ []) ++ nodeLines (n + 1) xs
+nodes-more : (n : ℕ) (x : Span) (xs : List Span)
+    → nodeLines n (x ∷ xs) ≡ line (decimal n) (decimal (x .first) ∷ decimal (x .end) ∷ []) ++ nodeLines (n + 1) xs
 unfolding nodeLines
 nodes-more n x xs = refl
 

@@ -13,7 +13,8 @@ use Rattle.encoding.specs.Class.{classOf}
 use Rattle.encoding.specs.Bytes.{Blanks, putBlanks, putIn}
 use Rattle.json.specs.Append.{blanks-split, length-blanks, value-split, length-value, value-positive, append-chars, chars-split, length-chars}
 use Rattle.json.specs.Grammar as G
-use Rattle.json.specs.Grammar.{Literal, Minus, Int, Char, Name, Value, putLiteral, putMinus, putInt, putFrac, putExp, putChars, putString, putKey, putValue}
+use Rattle.json.specs.Grammar.{Literal, Minus, Int, Char, Name, Value}
+use Rattle.json.specs.Grammar.{putLiteral, putMinus, putInt, putFrac, putExp, putChars, putString, putKey, putValue}
 use Rattle.json.specs.Read.{in-bounds}
 use Rattle.select.specs.Nodes.{size, keySize}
 use Rattle.swar.specs.Kinds.{body, blank}
@@ -55,7 +56,8 @@ abbrev Stops : (ℕ → Bool) → List ℕ → Type 0
 Stops p [] = Unit {0}
 Stops p (b ∷ u) = p b ≡ false
 
-run-exact : {p : ℕ → Bool} {s : List ℕ} {a r : ℕ} (xs rest : List ℕ) → AllOf p xs → Stops p rest → drop a s ≡ xs ++ rest → Run p s a r → r ≡ a + length xs
+run-exact : {p : ℕ → Bool} {s : List ℕ} {a r : ℕ} (xs rest : List ℕ) → AllOf p xs → Stops p rest → drop a s ≡ xs ++ rest
+    → Run p s a r → r ≡ a + length xs
 run-exact {p} {s} {a} {r} [] [] f g e h = omega (arith, h .passed .forward, h .passed .within, length-drop a s, ap length e)
 run-exact {p} {s} {a} {r} [] (b ∷ rest) f g e h =
     let x = head-of s a b rest e in
@@ -97,7 +99,8 @@ unfolding stopped isWordByte
 stopped-stops [] h = tt
 stopped-stops (b ∷ rest) h = ap not h
 
-run-word : {s : List ℕ} {a r : ℕ} (v : Value) (rest : List ℕ) → wordy (putValue v []) ≡ true → Run isWordByte s a r → drop a s ≡ putValue v rest → stopped rest ≡ true → r ≡ a + size v
+run-word : {s : List ℕ} {a r : ℕ} (v : Value) (rest : List ℕ) → wordy (putValue v []) ≡ true → Run isWordByte s a r
+    → drop a s ≡ putValue v rest → stopped rest ≡ true → r ≡ a + size v
 unfolding size
 run-word v rest w h e f = run-exact (putValue v []) rest (all-word (putValue v []) w) (stopped-stops rest f) (e ∙ value-split v rest) h
 
@@ -134,7 +137,8 @@ run-ahead {s} {rest} {e} {i} {r} h a = go i (a .ps) (a .here) (a .ends) h
         rw z (record { ps = escaped b ∷ ps; here = d; ends = f })
 
 -- the characters of a string are ahead of the place after its opening quote
-chars-ahead : {s : List ℕ} {a : ℕ} (cs : List Char) (rest : List ℕ) → drop a s ≡ putChars cs (0x22 ∷ rest) → Ahead s rest (a + length (putChars cs []) + 1) a
+chars-ahead : {s : List ℕ} {a : ℕ} (cs : List Char) (rest : List ℕ) → drop a s ≡ putChars cs (0x22 ∷ rest)
+    → Ahead s rest (a + length (putChars cs []) + 1) a
 chars-ahead {s} {a} cs rest e =
     record { ps = pieces cs; here = e ∙ chars-are cs (0x22 ∷ rest); ends = ap (λ (x : List ℕ). a + length x + 1) (chars-are cs []) }
 
@@ -166,7 +170,9 @@ module _ {s : List ℕ} {a i q : ℕ} (until : Until s a i) (run : Run body s i 
       go : (ps : List Piece) → drop q s ≡ putPieces ps (0x22 ∷ rest) → e ≡ q + length (putPieces ps []) + 1 → e ≡ q + 1
       go [] d g = omega arith
       go (plain b n ∷ ps) d g = absurd (no-plain b n (head-of s q b (putPieces ps (0x22 ∷ rest)) d .byte-is))
-      go (escaped b ∷ ps) d g = let z : _≡_ {A = ℕ} 0x5C 0x22 = sym (head-of s q 0x5C (b ∷ putPieces ps (0x22 ∷ rest)) d .byte-is) ∙ f in absurd (omega arith)
+      go (escaped b ∷ ps) d g =
+          let z : _≡_ {A = ℕ} 0x5C 0x22 = sym (head-of s q 0x5C (b ∷ putPieces ps (0x22 ∷ rest)) d .byte-is) ∙ f in
+          absurd (omega arith)
 
   -- a backslash takes the byte after it along
   escape-ahead : (getD s q 0 ≡ 0x22 → ⊥) → (q + 2 < length s) × Ahead s rest e (q + 2)
@@ -176,7 +182,8 @@ module _ {s : List ℕ} {a i q : ℕ} (until : Until s a i) (run : Run body s i 
       two : q + 2 ≡ suc (suc q)
       two = omega arith
 
-      go : (ps : List Piece) → drop q s ≡ putPieces ps (0x22 ∷ rest) → e ≡ q + length (putPieces ps []) + 1 → (q + 2 < length s) × Ahead s rest e (q + 2)
+      go : (ps : List Piece) → drop q s ≡ putPieces ps (0x22 ∷ rest) → e ≡ q + length (putPieces ps []) + 1
+          → (q + 2 < length s) × Ahead s rest e (q + 2)
       go [] d g = absurd (f (head-of s q 0x22 rest d .byte-is))
       go (plain b n ∷ ps) d g = absurd (no-plain b n (head-of s q b (putPieces ps (0x22 ∷ rest)) d .byte-is))
       go (escaped b ∷ ps) d g =
@@ -240,7 +247,12 @@ module _ (s : List ℕ) (a : ℕ) where
 
   -- nothing stands at the end of the record
   pub scalar-none : length s ≤ a → a ≤ length s → EndsScalar s a a
-  scalar-none h l = record { onward = omega arith; within = l; exact = λ v rest c d f. absurd (omega (arith, length-drop a s, ap length d, length-value v rest, value-positive v)) }
+  scalar-none h l =
+      record {
+        onward = omega arith;
+        within = l;
+        exact = λ v rest c d f. absurd (omega (arith, length-drop a s, ap length d, length-value v rest, value-positive v));
+      }
 
 -- an element: only the blanks before it
 pub enters-element : (s : List ℕ) (a b : ℕ) → EndsBlanks s a b → EntersItem s a false b 0 0
@@ -317,12 +329,14 @@ module _ (s : List ℕ) (a b : ℕ) (first : EndsBlanks s a b) (w : Blanks) (key
       module _ (v : ℕ) (third : EndsBlanks s (c + 1) v) where
         value-is : v ≡ a + length w + keySize G.object key
         value-is =
-            let x : v ≡ c + 1 + length (key .after) = third .exact (key .after) rest (ap (λ (i : ℕ). drop i s) (add-one c) ∙ colon-head .rest-is) firm in
+            let x : v ≡ c + 1 + length (key .after) =
+            third .exact (key .after) rest (ap (λ (i : ℕ). drop i s) (add-one c) ∙ colon-head .rest-is) firm in
             omega (arith, colon-is, name-end, start-is, member-size key)
 
 -- where no member stands there is nothing to show
 enters-nothing : (s : List ℕ) (a v : ℕ) → a ≤ v → v ≤ length s
-    → ((w : Blanks) (key : Name) (rest : List ℕ) → drop a s ≡ putBlanks w (putKey G.object key rest) → solid rest ≡ true → ⊥) → EntersItem s a true v 0 0
+    → ((w : Blanks) (key : Name) (rest : List ℕ) → drop a s ≡ putBlanks w (putKey G.object key rest) → solid rest ≡ true → ⊥)
+    → EntersItem s a true v 0 0
 enters-nothing s a v h l none =
     record {
       onward = h;

@@ -6,7 +6,7 @@ use Prim.Native.Nat.{ℕ, _+_, _≤_, _<_}
 use lib.ListN.{length, drop}
 use lib.Seq.{slice}
 use Rattle.encoding.specs.Bytes.{Blanks, putBlanks}
-use Rattle.json.specs.Grammar.{Char, Literal, Minus, Int, Frac, Exp, Kind, array, object, Key, Value, literal, number, string, container, putChars, putKey, putValue}
+use Rattle.json.specs.Grammar.{Char, Kind, array, object, Key, Value, literal, number, string, container, putChars, putKey, putValue}
 use Rattle.select.specs.Nodes.{size, keySize}
 use Rattle.scan.specs.Shape.{endsWord, solid, stopped}
 
@@ -54,5 +54,6 @@ pub record EntersItem (s : List ℕ) (a : ℕ) (isObject : Bool) (v x y : ℕ) :
   pub within : v ≤ length s
   pub name-order : x ≤ y
   pub name-within : y ≤ length s
-  pub exact : (w : Blanks) (key : Key (kindIf isObject)) (rest : List ℕ) → drop a s ≡ putBlanks w (putKey (kindIf isObject) key rest) → solid rest ≡ true
+  pub exact : (w : Blanks) (key : Key (kindIf isObject)) (rest : List ℕ)
+      → drop a s ≡ putBlanks w (putKey (kindIf isObject) key rest) → solid rest ≡ true
       → (v ≡ a + length w + keySize (kindIf isObject) key) × NameAt (kindIf isObject) key s x y

@@ -1,17 +1,10 @@
 -- How texts of the record grammar look to a scanner: what no blank begins, what ends a word, and where a string's quotes are.
-use mathlib.Core.Path.{_≡_, refl, sym, ap, _∙_}
-use mathlib.Core.List.{List, [], _∷_, _++_}
+use mathlib.Core.Path.{_≡_}
+use mathlib.Core.List.{List, [], _∷_}
 use mathlib.Core.Bool.{Bool, true, false, not, _&&_, _||_}
-use Prim.Native.Nat.{ℕ, zero, suc, _+_, _≤_}
+use Prim.Native.Nat.{ℕ}
 use lib.Dec.{eqb}
-use lib.ListN.{length}
-use Rattle.encoding.specs.Bytes.{In, putIn, Blank, Blanks, blankByte, putBlanks}
-use Rattle.encoding.specs.Bytes as B
-use Rattle.encoding.specs.Class.{classIn, classOf}
-use Rattle.encoding.specs.Utf8.{Wide, putWide}
-use Rattle.encoding.specs.Utf8 as U
-use Rattle.json.specs.Grammar as G
-use Rattle.json.specs.Grammar.{Literal, Minus, Int, Frac, Exp, Char, Kind, Key, Value, Items, More, putLiteral, putMinus, putInt, putFrac, putExp, putExpSign, putChar, putChars, putString, putKey, putValue, putItems, putMore}
+use Rattle.encoding.specs.Class.{classOf}
 
 -- a blank
 unfoldable pub isBlank : ℕ → Bool

@@ -17,7 +17,8 @@ use Rattle.encoding.specs.ClassLaws as Class
 use Rattle.encoding.specs.Utf8 as U
 use Rattle.encoding.specs.Utf8.{Wide, putWide}
 use Rattle.json.specs.Grammar as G
-use Rattle.json.specs.Grammar.{Literal, Minus, Int, Frac, Exp, ExpSign, Escape, escapeByte, Hex, hexByte, Char, Kind, Key, Value, Items, More, putLiteral, putMinus, putInt, putFrac, putExp, putExpSign, putChar, putChars, putString, putKey, putValue, putItems, putMore}
+use Rattle.json.specs.Grammar.{Literal, Minus, Int, Frac, Exp, escapeByte, Hex, hexByte, Char, Kind, Key, Value, More}
+use Rattle.json.specs.Grammar.{putLiteral, putMinus, putInt, putFrac, putExp, putExpSign, putChar, putChars, putString, putKey, putValue, putMore}
 use Rattle.swar.specs.Kinds.{inner}
 use Rattle.scan.specs.Scans.{isWordByte}
 use Rattle.scan.specs.Shape.{isBlank, endsWord, solid, starts, stopped, wordy, Piece, plain, escaped, putPieces}
@@ -33,7 +34,9 @@ passes lo hi p = allBelow (suc hi) (λ b. not (leb lo b) || p b)
 
 in-range : {lo hi : ℕ} (p : ℕ → Bool) → T (passes lo hi p) → (x : In lo hi) → p (x .byte) ≡ true
 unfolding passes
-in-range {lo} {hi} p t x = go (leb lo (x .byte)) (of-T (leb lo (x .byte)) (le→leb lo (x .byte) (in-bounds x .0))) (all-at (suc hi) (λ b. not (leb lo b) || p b) t (x .byte) (omega (arith, in-bounds x .1)))
+in-range {lo} {hi} p t x =
+    go (leb lo (x .byte)) (of-T (leb lo (x .byte)) (le→leb lo (x .byte) (in-bounds x .0)))
+    (all-at (suc hi) (λ b. not (leb lo b) || p b) t (x .byte) (omega (arith, in-bounds x .1)))
   where
     go : (b : Bool) → b ≡ true → T (not b || p (x .byte)) → p (x .byte) ≡ true
     go true e h = of-T (p (x .byte)) h

@@ -53,7 +53,8 @@ module _ (P : Node → Type 0) (up : (n : Node) → ((l : Label) (c : Node) → 
     value-induction (literal l) a = up (record { value = literal l; first = a }) (λ l c m. absurd (List·Memᴰ·not-nil m))
     value-induction (number g n f e) a = up (record { value = number g n f e; first = a }) (λ l c m. absurd (List·Memᴰ·not-nil m))
     value-induction (string cs) a = up (record { value = string cs; first = a }) (λ l c m. absurd (List·Memᴰ·not-nil m))
-    value-induction (container k is) a = up (record { value = container k is; first = a }) (λ l c m. items-induction is (a + 1) (record { label = l; node = c }) m)
+    value-induction (container k is) a =
+        up (record { value = container k is; first = a }) (λ l c m. items-induction is (a + 1) (record { label = l; node = c }) m)
 
     items-induction : {k : Kind} (is : Items k) (a : ℕ) (c : Child) → List·Memᴰ c (itemsChildren is a) → P (c .node)
     items-induction (empty w) a c m = absurd (List·Memᴰ·not-nil m)

@@ -3,7 +3,8 @@ use mathlib.Core.Path.{_≡_, refl}
 use mathlib.Core.List.{List, [], _∷_}
 use mathlib.Core.Bool.{true, false}
 use Prim.Native.Nat.{ℕ}
-use Rattle.json.specs.Grammar.{Char, high, digit, unicode, unsigned, whole, nofrac, noexp, array, object, Key, Value, number, container, empty, items, end, more, Tree, text}
+use Rattle.json.specs.Grammar.{Char, high, digit, unicode, unsigned, whole, nofrac, noexp, array, object}
+use Rattle.json.specs.Grammar.{Key, Value, number, container, empty, items, end, more, Tree, text}
 use Rattle.query.specs.Steps.{Step, name, every}
 use Rattle.select.specs.Marks.{Peak}
 use Rattle.select.specs.Ways.{Span, spans, peak}

@@ -24,7 +24,8 @@ pub data Mark (r : Node) (q : List Step) (i : ℕ) : Node → Type 0 where
 unfoldable pub SameMarks : Node → List Step → Node → Node → Type 0
 SameMarks r q p n = (i : ℕ) → Mark r q i p ↔ Mark r q i n
 
--- on the path from the root down to the container n there are k containers, below the root, whose marks differ from those of the container around them
+-- on the path from the root down to the container n there are k containers, below the root, whose marks differ from those of the container
+-- around them
 pub data Frames (r : Node) (q : List Step) : Node → ℕ → Type 0 where
   start : Frames r q r 0
   same : {p n : Node} {k : ℕ} (l : Label) → Frames r q p k → IsChild p l n → IsContainer n → SameMarks r q p n → Frames r q n k

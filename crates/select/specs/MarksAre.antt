@@ -53,7 +53,9 @@ module _ (q : List Step) (i : ℕ) where
       kept : ((isDeep (getElem? q i) && mark q i w) ≡ true) ↔ Kept w
       kept = and-is (isDeep (getElem? q i)) (mark q i w)
 
-      either : ((picks (take i q) (l ∷ w) || (isDeep (getElem? q i) && mark q i w)) ≡ true) ↔ ((picks (take i q) (l ∷ w) ≡ true) ⊎ ((isDeep (getElem? q i) && mark q i w) ≡ true))
+      either :
+          ((picks (take i q) (l ∷ w) || (isDeep (getElem? q i) && mark q i w)) ≡ true)
+          ↔ ((picks (take i q) (l ∷ w) ≡ true) ⊎ ((isDeep (getElem? q i) && mark q i w) ≡ true))
       either = or-is (picks (take i q) (l ∷ w)) (isDeep (getElem? q i) && mark q i w)
 
       both : (mark q i (l ∷ w) ≡ true) ↔ ((ltb i (length q) ≡ true) × ((picks (take i q) (l ∷ w) || (isDeep (getElem? q i) && mark q i w)) ≡ true))
@@ -93,7 +95,9 @@ unfolding sameMarks
 first-marks q zero w w′ = (λ e i h. absurd (omega arith), λ h. refl)
 first-marks q (suc n) w w′ = go (first-marks q n w w′)
   where
-    last : ((Bool·beq (mark q n w) (mark q n w′) && sameMarks q n w w′) ≡ true) ↔ ((Bool·beq (mark q n w) (mark q n w′) ≡ true) × (sameMarks q n w w′ ≡ true))
+    last :
+        ((Bool·beq (mark q n w) (mark q n w′) && sameMarks q n w w′) ≡ true)
+        ↔ ((Bool·beq (mark q n w) (mark q n w′) ≡ true) × (sameMarks q n w w′ ≡ true))
     last = and-is (Bool·beq (mark q n w) (mark q n w′)) (sameMarks q n w w′)
 
     pick : (i : ℕ) → i < suc n → mark q n w ≡ mark q n w′ → (i < n → mark q i w ≡ mark q i w′) → (b : Bool) → ltb i n ≡ b → mark q i w ≡ mark q i w′
@@ -122,7 +126,8 @@ all-marks q w w′ = (λ e i. same e i (ltb i (length q)) refl, λ h. first-mark
         mark-over q i w h ∙ sym (mark-over q i w′ h)
 
 -- two nodes have the same marks exactly if the test holds
-pub same-marks-is : (r : Node) (q : List Step) {w w′ : Way} {p n : Node} → Reach r w p → Reach r w′ n → SameMarks r q p n ↔ (sameMarks q (length q) w w′ ≡ true)
+pub same-marks-is : (r : Node) (q : List Step) {w w′ : Way} {p n : Node} → Reach r w p → Reach r w′ n
+    → SameMarks r q p n ↔ (sameMarks q (length q) w w′ ≡ true)
 unfolding SameMarks
 same-marks-is r q {w} {w′} {p} {n} x y = (
   λ h.
@@ -184,7 +189,8 @@ hits-step : {o : Option Step} {s : Step} (l : Label) → o ≡ some s → Hits (
 unfolding stepHits
 hits-step {o} {s} l e h = ap (λ (x : Option Step). stepHits x l) e ∙ hits-is (s .selector) l .0 h
 
-picked-below : (r : Node) (q : List Step) {w : Way} {p : Node} (n : Node) (l : Label) → Reach r w p → IsChild p l n → PickedFrom r q n ↔ ByMark r q p l
+picked-below : (r : Node) (q : List Step) {w : Way} {p : Node} (n : Node) (l : Label) → Reach r w p → IsChild p l n
+    → PickedFrom r q n ↔ ByMark r q p l
 picked-below r q {w} {p} n l x c = (
   λ h.
       let (u, y, e) = picked-from r q n .0 h in

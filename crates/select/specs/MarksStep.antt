@@ -108,11 +108,15 @@ module _ (q : List Step) where
       go (some s) e = ap (λ (b : Bool). b && (isDeep (getElem? q 0) && mark q 0 w)) (lt-ltb 0 (length q) (step-some q 0 e))
 
   -- it has mark i + 1 if its parent has mark i and step i + 1 hits it, or if its parent has mark i + 1 and step i + 2 is deep
-  pub mark-suc : (i : ℕ) (l : Label) (w : Way) → mark q (suc i) (l ∷ w) ≡ (ltb (suc i) (length q) && ((stepHits (getElem? q i) l && mark q i w) || (isDeep (getElem? q (suc i)) && mark q (suc i) w)))
+  pub mark-suc : (i : ℕ) (l : Label) (w : Way)
+      → mark q (suc i) (l ∷ w)
+      ≡ (ltb (suc i) (length q) && ((stepHits (getElem? q i) l && mark q i w) || (isDeep (getElem? q (suc i)) && mark q (suc i) w)))
   unfolding mark
   mark-suc i l w = go (getElem? q i) refl
     where
-      go : (o : Option Step) → getElem? q i ≡ o → mark q (suc i) (l ∷ w) ≡ (ltb (suc i) (length q) && ((stepHits (getElem? q i) l && mark q i w) || (isDeep (getElem? q (suc i)) && mark q (suc i) w)))
+      go : (o : Option Step) → getElem? q i ≡ o
+          → mark q (suc i) (l ∷ w)
+          ≡ (ltb (suc i) (length q) && ((stepHits (getElem? q i) l && mark q i w) || (isDeep (getElem? q (suc i)) && mark q (suc i) w)))
       go none e =
           mark-over (suc i) (l ∷ w) (omega (arith, step-none q i e))
           ∙ sym

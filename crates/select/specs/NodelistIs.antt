@@ -2,7 +2,8 @@
 -- A segment gives what its step takes, and steps taken from the first one on are steps taken from the last one back. Assumes nothing.
 use mathlib.Core.Path.{_≡_, refl, sym, ap, subst, _∙_}
 use mathlib.Core.Logic.{_↔_, _⊎_, inl, inr}
-use mathlib.Core.List.{List, [], _∷_, _++_, reverseAux, map, flatMap, List·Memᴰ, List·Memᴰ·head, List·Memᴰ·tail, List·Memᴰ·not-nil, List·Memᴰ·cases-cons, List·Memᴰ·eq-of-singleton, Memᴰ·cast, Memᴰ·map, Memᴰ·of-map}
+use mathlib.Core.List.{List, [], _∷_, _++_, reverseAux, map, flatMap, List·Memᴰ, List·Memᴰ·head, List·Memᴰ·tail}
+use mathlib.Core.List.{List·Memᴰ·not-nil, List·Memᴰ·cases-cons, List·Memᴰ·eq-of-singleton, Memᴰ·cast, Memᴰ·map, Memᴰ·of-map}
 use mathlib.Core.Bool.{Bool, true, false, false≢true}
 use Rattle.json.specs.Grammar.{Tree}
 use Rattle.query.specs.Steps.{Selector, Step}
@@ -39,11 +40,13 @@ module _ (sel : Selector) (n : Node) where
       later : Selected cs → Selected (c ∷ cs)
       later (l, h, e) = (l, List·Memᴰ·tail h, e)
 
-      first : hits sel (c .label) ≡ true → (n ≡ c .node) ⊎ List·Memᴰ n (selected sel cs) → (List·Memᴰ n (selected sel cs) → Selected cs) → Selected (c ∷ cs)
+      first : hits sel (c .label) ≡ true → (n ≡ c .node) ⊎ List·Memᴰ n (selected sel cs) → (List·Memᴰ n (selected sel cs) → Selected cs)
+          → Selected (c ∷ cs)
       first e (inl p) rest = (c .label, List·Memᴰ·head (ap (λ (x : Node). record { label = c .label; node = x }) p), e)
       first e (inr h) rest = later (rest h)
 
-      go : (b : Bool) → hits sel (c .label) ≡ b → List·Memᴰ n (nodeIf b (c .node) (selected sel cs)) → (List·Memᴰ n (selected sel cs) → Selected cs) → Selected (c ∷ cs)
+      go : (b : Bool) → hits sel (c .label) ≡ b → List·Memᴰ n (nodeIf b (c .node) (selected sel cs))
+          → (List·Memᴰ n (selected sel cs) → Selected cs) → Selected (c ∷ cs)
       go true e m rest = first e (List·Memᴰ·cases-cons m) rest
       go false e m rest = later (rest m)
 
@@ -60,7 +63,9 @@ module _ (sel : Selector) (n : Node) where
       later true h = List·Memᴰ·tail h
       later false h = h
 
-      go : (record { label = l; node = n } ≡ c) ⊎ List·Memᴰ (record { label = l; node = n }) cs → (List·Memᴰ (record { label = l; node = n }) cs → List·Memᴰ n (selected sel cs)) → List·Memᴰ n (nodeIf (hits sel (c .label)) (c .node) (selected sel cs))
+      go : (record { label = l; node = n } ≡ c) ⊎ List·Memᴰ (record { label = l; node = n }) cs
+          → (List·Memᴰ (record { label = l; node = n }) cs → List·Memᴰ n (selected sel cs))
+          → List·Memᴰ n (nodeIf (hits sel (c .label)) (c .node) (selected sel cs))
       go (inl p) rest = here (hits sel (c .label)) (ap (λ (x : Child). hits sel (x .label)) (sym p) ∙ e) (ap (λ (x : Child). x .node) p)
       go (inr h) rest = later (hits sel (c .label)) (rest h)
 
@@ -116,7 +121,9 @@ unfolding applied
 applied-is [] ns n = (λ h. (n, h, refl), λ x. Memᴰ·cast (x .2) (x .1))
 applied-is (s ∷ q) ns n = go (applied-is q (concatMap (segment (s .deep) (s .selector)) ns) n)
   where
-    next : (k : Node) → List·Memᴰ k (concatMap (segment (s .deep) (s .selector)) ns) ↔ ((m : Node) × List·Memᴰ m ns × List·Memᴰ k (segment (s .deep) (s .selector) m))
+    next : (k : Node)
+        → List·Memᴰ k (concatMap (segment (s .deep) (s .selector)) ns)
+        ↔ ((m : Node) × List·Memᴰ m ns × List·Memᴰ k (segment (s .deep) (s .selector) m))
     next = mem-concatMap (segment (s .deep) (s .selector)) ns
 
     go : List·Memᴰ n (applied (s ∷ q) ns) ↔ ((k : Node) × List·Memᴰ k (concatMap (segment (s .deep) (s .selector)) ns) × Led q k n) →

@@ -8,9 +8,11 @@ use Prim.Native.Nat.{ℕ, zero, suc, _+_, _≤_, _<_}
 use native.Mathlib.Numerals.{add-one}
 use native.Mathlib.Omega.{arith}
 use lib.ListN.{length, getElem?}
-use Rattle.json.specs.Grammar.{Kind, Value, literal, number, string, container, Items, empty, items, More, end, more, putValue, putItems, putMore, Tree}
+use Rattle.json.specs.Grammar.{Kind, Value, literal, number, string, container, Items, empty}
+use Rattle.json.specs.Grammar.{items, More, end, more, putValue, putItems, putMore, Tree}
 use Rattle.json.specs.Append.{length-blanks, length-key, length-value, value-positive}
-use Rattle.select.specs.Nodes.{Label, Node, Child, size, keySize, endOf, root, children, valueChildren, itemsChildren, moreChildren, IsChild, Below, IsNode}
+use Rattle.select.specs.Nodes.{Label, Node, Child, size, keySize, endOf, root, children}
+use Rattle.select.specs.Nodes.{valueChildren, itemsChildren, moreChildren, IsChild, Below, IsNode}
 use Rattle.select.specs.Nodes as N
 use Rattle.select.specs.Visits.{Visit, Way, step, nodeVisits, nodes}
 use Rattle.select.specs.VisitsMap.{map-append}
@@ -83,7 +85,8 @@ module _ {S : Type 0} (next : S → Label → S) where
   abbrev Ordered : Node → Type 0
   Ordered n = (s : S) → Rises (n .first) (firsts (nodeVisits next n s)) (endOf n)
 
-  children-rise : (s : S) (a e : ℕ) (cs : List Child) → Apart a cs e → ((c : Child) → List·Memᴰ c cs → Ordered (c .node)) → Rises a (firsts (flatMap (childVisits next s) cs)) e
+  children-rise : (s : S) (a e : ℕ) (cs : List Child) → Apart a cs e → ((c : Child) → List·Memᴰ c cs → Ordered (c .node))
+      → Rises a (firsts (flatMap (childVisits next s) cs)) e
   unfolding flatMap
   children-rise s a e [] h ih = h
   children-rise s a e (c ∷ cs) h ih =
@@ -152,7 +155,8 @@ module _ {A : Type 0} (f : A → ℕ) where
       go (inr p) (inr p′) rest = rest p p′
 
   -- what stands earlier has the smaller number
-  pub rises-earlier : (a e : ℕ) (xs : List A) → Rises a (map f xs) e → (i j : ℕ) (x y : A) → i < j → getElem? xs i ≡ some x → getElem? xs j ≡ some y → f x < f y
+  pub rises-earlier : (a e : ℕ) (xs : List A) → Rises a (map f xs) e → (i j : ℕ) (x y : A) → i < j → getElem? xs i ≡ some x
+      → getElem? xs j ≡ some y → f x < f y
   rises-earlier a e [] r i j x y h p q = let z : _≡_ {A = ℕ} 0 1 = cc in absurd (omega arith)
   rises-earlier a e (z ∷ xs) r zero zero x y h p q = absurd (omega arith)
   rises-earlier a e (z ∷ xs) r zero (suc j) x y h p q =
@@ -194,7 +198,8 @@ apart-bounds : (a e : ℕ) {c : Child} (cs : List Child) → Apart a cs e → Li
 apart-bounds a e [] h m = absurd (List·Memᴰ·not-nil m)
 apart-bounds a e {c} (d ∷ cs) h m = go (List·Memᴰ·cases-cons m) (apart-bounds (endOf (d .node)) e cs (h .1))
   where
-    go : (c ≡ d) ⊎ List·Memᴰ c cs → (List·Memᴰ c cs → (endOf (d .node) ≤ c .node .first) × (endOf (c .node) ≤ e)) → (a ≤ c .node .first) × (endOf (c .node) ≤ e)
+    go : (c ≡ d) ⊎ List·Memᴰ c cs → (List·Memᴰ c cs → (endOf (d .node) ≤ c .node .first) × (endOf (c .node) ≤ e))
+        → (a ≤ c .node .first) × (endOf (c .node) ≤ e)
     go (inl p) rest =
         subst
         (λ (x : Child). (a ≤ x .node .first) × (endOf (x .node) ≤ e))

@@ -81,7 +81,8 @@ module _ (q : List Step) (w w′ : Way) (grow : (i : ℕ) → mark q i w ≡ tru
   count-rises zero e = absurd (false≢true (sym e))
   count-rises (suc n) e = go (mark q n w) (mark q n w′) (grow n) e (λ k. count-rises n k)
     where
-      go : (x y : Bool) → (x ≡ true → y ≡ true) → (Bool·beq x y && sameMarks q n w w′) ≡ false → (sameMarks q n w w′ ≡ false → count q n w < count q n w′) → one x + count q n w < one y + count q n w′
+      go : (x y : Bool) → (x ≡ true → y ≡ true) → (Bool·beq x y && sameMarks q n w w′) ≡ false
+          → (sameMarks q n w w′ ≡ false → count q n w < count q n w′) → one x + count q n w < one y + count q n w′
       go true true h e rest = omega (arith, rest e)
       go true false h e rest = absurd (false≢true (h refl))
       go false true h e rest = omega (arith, count-grows n)

@@ -2,7 +2,8 @@
 -- A visit is of the node itself or below a child; and with a node its children are visited. Assumes nothing.
 use mathlib.Core.Path.{_≡_, refl, sym, ap, subst}
 use mathlib.Core.Logic.{_↔_, _⊎_, inl, inr}
-use mathlib.Core.List.{List, [], _∷_, flatMap, List·Memᴰ, List·Memᴰ·head, List·Memᴰ·tail, List·Memᴰ·not-nil, List·Memᴰ·cases-cons, List·Memᴰ·append-cases, Memᴰ·cast, Memᴰ·append-left, Memᴰ·append-right, Memᴰ·map, Memᴰ·of-map}
+use mathlib.Core.List.{List, [], _∷_, flatMap, List·Memᴰ, List·Memᴰ·head, List·Memᴰ·tail, List·Memᴰ·not-nil, List·Memᴰ·cases-cons}
+use mathlib.Core.List.{List·Memᴰ·append-cases, Memᴰ·cast, Memᴰ·append-left, Memᴰ·append-right, Memᴰ·map, Memᴰ·of-map}
 use Rattle.json.specs.Grammar.{Tree}
 use Rattle.select.specs.Nodes.{Label, Node, children, IsChild, Below, root}
 use Rattle.select.specs.Nodes as N
@@ -46,7 +47,8 @@ unfolding flatMap
 of-flatMap f [] m = absurd (List·Memᴰ·not-nil m)
 of-flatMap {A} {B} f {y} (x ∷ xs) m = go (List·Memᴰ·append-cases (f x) m) (of-flatMap f xs)
   where
-    go : List·Memᴰ y (f x) ⊎ List·Memᴰ y (flatMap f xs) → (List·Memᴰ y (flatMap f xs) → (z : A) × List·Memᴰ z xs × List·Memᴰ y (f z)) → (z : A) × List·Memᴰ z (x ∷ xs) × List·Memᴰ y (f z)
+    go : List·Memᴰ y (f x) ⊎ List·Memᴰ y (flatMap f xs) → (List·Memᴰ y (flatMap f xs) → (z : A) × List·Memᴰ z xs × List·Memᴰ y (f z))
+        → (z : A) × List·Memᴰ z (x ∷ xs) × List·Memᴰ y (f z)
     go (inl h) rest = (x, List·Memᴰ·head refl, h)
     go (inr h) rest = let (z, p, q) = rest h in (z, List·Memᴰ·tail p, q)
 
@@ -55,7 +57,8 @@ at w n = record { state = w; node = n }
 
 -- a visit of n is of n itself or below a child
 module _ (b : Way) where
-  visit-cases : (n : Node) {x : Visit Way} → List·Memᴰ x (nodeVisits step n b) → (x ≡ at b n) ⊎ List·Memᴰ x (flatMap (childVisits step b) (children n))
+  visit-cases : (n : Node) {x : Visit Way} → List·Memᴰ x (nodeVisits step n b)
+      → (x ≡ at b n) ⊎ List·Memᴰ x (flatMap (childVisits step b) (children n))
   visit-cases n {x} m = List·Memᴰ·cases-cons (subst (λ (z : List (Visit Way)). List·Memᴰ x z) (visits-children step b n) m)
 
   visit-self : (n : Node) → List·Memᴰ (at b n) (nodeVisits step n b)
@@ -85,7 +88,8 @@ visit-reach = node-induction Reached up
 
 -- with a node its children are visited too
 abbrev Closed : Node → Type 0
-Closed n = (b w : Way) (m c : Node) (l : Label) → List·Memᴰ (at w m) (nodeVisits step n b) → IsChild m l c → List·Memᴰ (at (l ∷ w) c) (nodeVisits step n b)
+Closed n = (b w : Way) (m c : Node) (l : Label) → List·Memᴰ (at w m) (nodeVisits step n b) → IsChild m l c
+    → List·Memᴰ (at (l ∷ w) c) (nodeVisits step n b)
 
 visits-closed : (n : Node) → Closed n
 unfolding IsChild

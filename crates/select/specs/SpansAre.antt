@@ -35,11 +35,13 @@ module _ (q : List Step) where
       later : Chosen x vs → Chosen x (v ∷ vs)
       later (u, h, e, p) = (u, List·Memᴰ·tail h, e, p)
 
-      first : picks q (v .state) ≡ true → (x ≡ spanOf (v .node)) ⊎ List·Memᴰ x (pickedSpans q vs) → (List·Memᴰ x (pickedSpans q vs) → Chosen x vs) → Chosen x (v ∷ vs)
+      first : picks q (v .state) ≡ true → (x ≡ spanOf (v .node)) ⊎ List·Memᴰ x (pickedSpans q vs)
+          → (List·Memᴰ x (pickedSpans q vs) → Chosen x vs) → Chosen x (v ∷ vs)
       first e (inl p) rest = (v, List·Memᴰ·head refl, e, sym p)
       first e (inr h) rest = later (rest h)
 
-      go : (b : Bool) → picks q (v .state) ≡ b → List·Memᴰ x (spanIf b (v .node) (pickedSpans q vs)) → (List·Memᴰ x (pickedSpans q vs) → Chosen x vs) → Chosen x (v ∷ vs)
+      go : (b : Bool) → picks q (v .state) ≡ b → List·Memᴰ x (spanIf b (v .node) (pickedSpans q vs))
+          → (List·Memᴰ x (pickedSpans q vs) → Chosen x vs) → Chosen x (v ∷ vs)
       go true e m rest = first e (List·Memᴰ·cases-cons m) rest
       go false e m rest = later (rest m)
 
@@ -56,7 +58,8 @@ module _ (q : List Step) where
       later true h = List·Memᴰ·tail h
       later false h = h
 
-      go : (v ≡ u) ⊎ List·Memᴰ v vs → (List·Memᴰ v vs → List·Memᴰ x (pickedSpans q vs)) → List·Memᴰ x (spanIf (picks q (u .state)) (u .node) (pickedSpans q vs))
+      go : (v ≡ u) ⊎ List·Memᴰ v vs → (List·Memᴰ v vs → List·Memᴰ x (pickedSpans q vs))
+          → List·Memᴰ x (spanIf (picks q (u .state)) (u .node) (pickedSpans q vs))
       go (inl h) rest =
           taken (picks q (u .state)) (ap (λ (z : Visit Way). picks q (z .state)) (sym h) ∙ e) (sym p ∙ ap (λ (z : Visit Way). spanOf (z .node)) h)
       go (inr h) rest = later (picks q (u .state)) (rest h)
@@ -66,7 +69,8 @@ module _ (q : List Step) where
   spans-rising a e [] r = r
   spans-rising a e (v ∷ vs) r = go (picks q (v .state)) (spans-rising (suc (v .node .first)) e vs (r .1))
     where
-      go : (b : Bool) → Rises (suc (v .node .first)) (firstBytes (pickedSpans q vs)) e → Rises a (firstBytes (spanIf b (v .node) (pickedSpans q vs))) e
+      go : (b : Bool) → Rises (suc (v .node .first)) (firstBytes (pickedSpans q vs)) e
+          → Rises a (firstBytes (spanIf b (v .node) (pickedSpans q vs))) e
       go true rest = (r .0, rest)
       go false rest = rises-lower a (suc (v .node .first)) e (firstBytes (pickedSpans q vs)) (omega (arith, r .0)) rest
 

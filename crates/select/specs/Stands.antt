@@ -6,9 +6,11 @@ use Prim.Native.Nat.{ℕ, _+_, _-_}
 use native.Mathlib.Omega.{arith}
 use lib.ListN.{length, take, drop, length-append}
 use lib.Seq.{take-at, drop-at}
-use Rattle.json.specs.Grammar.{Kind, Value, literal, number, string, container, Items, empty, items, More, end, more, opening, putValue, putItems, putMore, Tree, text}
+use Rattle.json.specs.Grammar.{Kind, Value, literal, number, string, container, Items, empty, items}
+use Rattle.json.specs.Grammar.{More, end, more, opening, putValue, putItems, putMore, Tree, text}
 use Rattle.json.specs.Append.{blanks-split, key-split, value-split, length-blanks}
-use Rattle.select.specs.Nodes.{Label, Node, Child, size, keySize, endOf, root, children, valueChildren, itemsChildren, moreChildren, IsChild, Below, IsNode}
+use Rattle.select.specs.Nodes.{Label, Node, Child, size, keySize, endOf, root, children}
+use Rattle.select.specs.Nodes.{valueChildren, itemsChildren, moreChildren, IsChild, Below, IsNode}
 use Rattle.select.specs.Nodes as N
 
 -- from place a on, s goes on with x
@@ -35,11 +37,13 @@ pub record Stands (s : List ℕ) (n : Node) : Type 0 where
   pub written : At s (n .first) (putValue (n .value) rest)
 
 module _ (s : List ℕ) where
-  first-or-rest : {c d : Child} {cs : List Child} → Stands s (d .node) → (List·Memᴰ c cs → Stands s (c .node)) → List·Memᴰ c (d ∷ cs) → Stands s (c .node)
+  first-or-rest : {c d : Child} {cs : List Child} → Stands s (d .node) → (List·Memᴰ c cs → Stands s (c .node)) → List·Memᴰ c (d ∷ cs)
+      → Stands s (c .node)
   first-or-rest h f (List·Memᴰ·head e) = subst (λ (c : Child). Stands s (c .node)) (sym e) h
   first-or-rest h f (List·Memᴰ·tail m) = f m
 
-  more-stands : {k : Kind} {c : Child} (m : More k) (j a : ℕ) (rest : List ℕ) → At s a (putMore m rest) → List·Memᴰ c (moreChildren m j a) → Stands s (c .node)
+  more-stands : {k : Kind} {c : Child} (m : More k) (j a : ℕ) (rest : List ℕ) → At s a (putMore m rest) → List·Memᴰ c (moreChildren m j a)
+      → Stands s (c .node)
   unfolding putMore moreChildren keySize size
   more-stands (end w) j a rest h i = absurd (List·Memᴰ·not-nil i)
   more-stands {k} (more w w′ key v m) j a rest h i =
@@ -53,7 +57,8 @@ module _ (s : List ℕ) where
       (λ i′. more-stands m (j + 1) (b + size v) rest (behind (b + size v) value-split v here (omega arith)) i′)
       i
 
-  items-stands : {k : Kind} {c : Child} (is : Items k) (a : ℕ) (rest : List ℕ) → At s a (putItems is rest) → List·Memᴰ c (itemsChildren is a) → Stands s (c .node)
+  items-stands : {k : Kind} {c : Child} (is : Items k) (a : ℕ) (rest : List ℕ) → At s a (putItems is rest)
+      → List·Memᴰ c (itemsChildren is a) → Stands s (c .node)
   unfolding putItems itemsChildren keySize size
   items-stands (empty w) a rest h i = absurd (List·Memᴰ·not-nil i)
   items-stands {k} (items w key v m) a rest h i =
@@ -89,7 +94,9 @@ node-stands t n b = below-stands (text t) top b
     top : Stands (text t) (root t)
     top = record {
       rest = _;
-      written = behind (length (t .before)) blanks-split (t .before) (record { before = []; split = refl; place = refl }) (omega (arith, length-blanks (t .before) []));
+      written =
+          behind (length (t .before)) blanks-split (t .before) (record { before = []; split = refl; place = refl })
+          (omega (arith, length-blanks (t .before) []));
     }
 
 -- so its bytes there are those of its value

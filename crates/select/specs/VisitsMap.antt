@@ -88,7 +88,8 @@ module _ {S : Type 0} (next : S → Label → S) (k : ℕ) where
         e
         (itemsVisits-shift is s (a + 1) (b + 1) (omega arith))
 
-    pub itemsVisits-shift : {c : Kind} (is : Items c) (s : S) (a b : ℕ) → b ≡ a + k → itemsVisits next is s b ≡ map (shifted k) (itemsVisits next is s a)
+    pub itemsVisits-shift : {c : Kind} (is : Items c) (s : S) (a b : ℕ) → b ≡ a + k
+        → itemsVisits next is s b ≡ map (shifted k) (itemsVisits next is s a)
     itemsVisits-shift (empty w) s a b e = refl
     itemsVisits-shift {c} (items w key v m) s a b e =
         let x = a + length w + keySize c key in
@@ -101,7 +102,8 @@ module _ {S : Type 0} (next : S → Label → S) (k : ℕ) where
         (visits-shift v s′ x y (omega arith))
         (moreVisits-shift m s 1 (x + size v) (y + size v) (omega arith))
 
-    pub moreVisits-shift : {c : Kind} (m : More c) (s : S) (j a b : ℕ) → b ≡ a + k → moreVisits next m s j b ≡ map (shifted k) (moreVisits next m s j a)
+    pub moreVisits-shift : {c : Kind} (m : More c) (s : S) (j a b : ℕ) → b ≡ a + k
+        → moreVisits next m s j b ≡ map (shifted k) (moreVisits next m s j a)
     moreVisits-shift (end w) s j a b e = refl
     moreVisits-shift {c} (more w w′ key v m) s j a b e =
         let x = a + length w + 1 + length w′ + keySize c key in

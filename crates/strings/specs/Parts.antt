@@ -2,7 +2,8 @@
 -- A string is pieces between two quotes; no piece has a real quote. Assumes nothing.
 use mathlib.Core.Path.{_≡_, refl, sym, ap, subst, _∙_}
 use mathlib.Core.Bool.{Bool, true, false, not, _&&_, _||_, and-false, false≢true}
-use mathlib.Core.List.{List, [], _∷_, _++_, List·Memᴰ·head, List·Memᴰ·not-nil, List·Memᴰ·append-cases, List·Memᴰ·eq-of-singleton, Memᴰ·append-left, Memᴰ·append-right}
+use mathlib.Core.List.{List, [], _∷_, _++_, List·Memᴰ·head, List·Memᴰ·not-nil}
+use mathlib.Core.List.{List·Memᴰ·append-cases, List·Memᴰ·eq-of-singleton, Memᴰ·append-left, Memᴰ·append-right}
 use mathlib.Core.Logic.{_⊎_, inl, inr, ⊎-elim}
 use Prim.Native.Nat.{ℕ, suc, _+_, _-_, _<_, _≤_}
 use native.Mathlib.Nat.{add-zero}
@@ -105,7 +106,8 @@ among-either ps h = ⊎-elim
 pub none-in : {i : ℕ} → InOne [] i → ⊥
 none-in h = List·Memᴰ·not-nil (h .among)
 
-pub calm-after : {inside odd : Bool} {s : List ℕ} {a : ℕ} → Calm (byteAt s a) → Carried inside odd s a false false → Carried inside odd s (suc a) false false
+pub calm-after : {inside odd : Bool} {s : List ℕ} {a : ℕ} → Calm (byteAt s a) → Carried inside odd s a false false
+    → Carried inside odd s (suc a) false false
 calm-after {inside} {odd} {s} {a} b c = carry-plain inside odd s a false false (b .no-quote) (b .no-backslash) c
 
 module _ {inside odd : Bool} {s : List ℕ} {o : ℕ} where
@@ -160,8 +162,12 @@ module _ {inside odd : Bool} {s : List ℕ} {o : ℕ} where
   unfolding opensAt closesAt
   flat-byte {a} b c = record {
     marks = marks-one (calm-after b c);
-    no-opening = λ i h l. (let z : i ≡ a = omega arith in ap (opensAt inside odd s) z ∙ ap (λ (x : Bool). x && not (inString inside odd s a)) (b .no-opening));
-    no-closing = λ i h l. (let z : i ≡ a = omega arith in ap (closesAt inside odd s) z ∙ ap (λ (x : Bool). x && not (inString inside odd s a)) (b .no-closing));
+    no-opening = λ i h l.
+        (let z : i ≡ a = omega arith in
+        ap (opensAt inside odd s) z ∙ ap (λ (x : Bool). x && not (inString inside odd s a)) (b .no-opening));
+    no-closing = λ i h l.
+        (let z : i ≡ a = omega arith in
+        ap (closesAt inside odd s) z ∙ ap (λ (x : Bool). x && not (inString inside odd s a)) (b .no-closing));
   }
 
   -- the same, with the place or the strings named otherwise
@@ -175,13 +181,15 @@ module _ {inside odd : Bool} {s : List ℕ} {o : ℕ} where
   flat-to {a} {e} {f} {qs} z p = subst (λ (x : ℕ). Flat inside odd s o a x qs) z p
 
   -- calm bytes
-  pub flat-bytes : (xs rest : List ℕ) (a : ℕ) → allCalm xs ≡ true → drop a s ≡ xs ++ rest → Carried inside odd s a false false → Flat inside odd s o a (a + length xs) []
+  pub flat-bytes : (xs rest : List ℕ) (a : ℕ) → allCalm xs ≡ true → drop a s ≡ xs ++ rest → Carried inside odd s a false false
+      → Flat inside odd s o a (a + length xs) []
   unfolding allCalm
   flat-bytes [] rest a h e c = flat-to (sym (add-zero a)) (flat-none c)
   flat-bytes (x ∷ xs) rest a h e c = more-bytes (head s a x (xs ++ rest) e) (both-true (calm x) (allCalm xs) h) c (flat-bytes xs rest (suc a))
     where
       more-bytes : Head s a x (xs ++ rest) → (calm x ≡ true) × (allCalm xs ≡ true) → Carried inside odd s a false false
-          → (allCalm xs ≡ true → drop (suc a) s ≡ xs ++ rest → Carried inside odd s (suc a) false false → Flat inside odd s o (suc a) (suc a + length xs) [])
+          → (allCalm xs ≡ true → drop (suc a) s ≡ xs ++ rest → Carried inside odd s (suc a) false false
+          → Flat inside odd s o (suc a) (suc a + length xs) [])
           → Flat inside odd s o a (a + suc (length xs)) []
       more-bytes t h c more =
           let b : Calm (byteAt s a) = rw (t .byte) (calm-is x (h .0)) in
@@ -227,23 +235,29 @@ module _ {inside odd : Bool} {s : List ℕ} where
   held-to : {p q r : ℕ} {x : Bool} → q ≡ r → Held inside odd s p q x → Held inside odd s p r x
   held-to {p} {q} {r} {x} z f = subst (λ (y : ℕ). Held inside odd s p y x) z f
 
-  held-plain : {p : ℕ} (b : ℕ) (rest : List ℕ) → (eqb b 0x22 || eqb b 0x5C) ≡ false → Head s p b rest → Carried inside odd s p true false → Held inside odd s p (suc p) false
+  held-plain : {p : ℕ} (b : ℕ) (rest : List ℕ) → (eqb b 0x22 || eqb b 0x5C) ≡ false → Head s p b rest → Carried inside odd s p true false
+      → Held inside odd s p (suc p) false
   held-plain {p} b rest h t c =
       let n = neither (eqb b 0x22) (eqb b 0x5C) h in
-      held-one c (carry-plain inside odd s p true false (λ e. eqb-false b 0x22 (n .0) (sym (t .byte) ∙ e)) (λ e. eqb-false b 0x5C (n .1) (sym (t .byte) ∙ e)) c)
+      held-one c
+      (carry-plain inside odd s p true false (λ e. eqb-false b 0x22 (n .0) (sym (t .byte) ∙ e))
+      (λ e. eqb-false b 0x5C (n .1) (sym (t .byte) ∙ e)) c)
 
-  held-escaped : {p : ℕ} (b : ℕ) (rest : List ℕ) → Head s p 0x5C (b ∷ rest) → Carried inside odd s p true false → Held inside odd s p (suc (suc p)) false
+  held-escaped : {p : ℕ} (b : ℕ) (rest : List ℕ) → Head s p 0x5C (b ∷ rest) → Carried inside odd s p true false
+      → Held inside odd s p (suc (suc p)) false
   held-escaped {p} b rest t c =
       let d = carry-backslash inside odd s p true (t .byte) c in
       held-then (held-one c d) (held-one d (carry-escaped inside odd s (suc p) true d))
 
-  pub held-pieces : (ps : List Piece) (rest : List ℕ) (p : ℕ) → drop p s ≡ putPieces ps rest → Carried inside odd s p true false → Held inside odd s p (p + length (putPieces ps [])) false
+  pub held-pieces : (ps : List Piece) (rest : List ℕ) (p : ℕ) → drop p s ≡ putPieces ps rest → Carried inside odd s p true false
+      → Held inside odd s p (p + length (putPieces ps [])) false
   unfolding putPieces
   held-pieces [] rest p e c = held-to (sym (add-zero p)) (held-none c)
   held-pieces (plain b h ∷ ps) rest p e c = one (head s p b (putPieces ps rest) e) (held-pieces ps rest (suc p))
     where
       one : Head s p b (putPieces ps rest)
-          → (drop (suc p) s ≡ putPieces ps rest → Carried inside odd s (suc p) true false → Held inside odd s (suc p) (suc p + length (putPieces ps [])) false)
+          → (drop (suc p) s ≡ putPieces ps rest → Carried inside odd s (suc p) true false
+          → Held inside odd s (suc p) (suc p + length (putPieces ps [])) false)
           → Held inside odd s p (p + suc (length (putPieces ps []))) false
       one t more =
           let f = held-plain b (putPieces ps rest) h t c in
@@ -252,7 +266,8 @@ module _ {inside odd : Bool} {s : List ℕ} where
   held-pieces (escaped b ∷ ps) rest p e c = two (head s p 0x5C (b ∷ putPieces ps rest) e) (held-pieces ps rest (suc (suc p)))
     where
       two : Head s p 0x5C (b ∷ putPieces ps rest)
-          → (drop (suc (suc p)) s ≡ putPieces ps rest → Carried inside odd s (suc (suc p)) true false → Held inside odd s (suc (suc p)) (suc (suc p) + length (putPieces ps [])) false)
+          → (drop (suc (suc p)) s ≡ putPieces ps rest → Carried inside odd s (suc (suc p)) true false
+          → Held inside odd s (suc (suc p)) (suc (suc p) + length (putPieces ps [])) false)
           → Held inside odd s p (p + suc (suc (length (putPieces ps [])))) false
       two t more =
           let f = held-escaped b (putPieces ps rest) t c in
@@ -302,10 +317,13 @@ module _ {inside odd : Bool} {s : List ℕ} (o : ℕ) {a q : ℕ} (w : Quotes) (
       no-bracket : (x y : ℕ) → (eqb 0x22 x || eqb 0x22 y) ≡ false → (i : ℕ) → a ≤ i → i < suc q
           → ((eqb (byteAt s i) x || eqb (byteAt s i) y) && not (inString inside odd s i)) ≡ false
       no-bracket x y e i l r = ⊎-elim
-          (λ (c : i < q). ap (λ (b : Bool). (eqb (byteAt s i) x || eqb (byteAt s i) y) && not b) (on-in i l c) ∙ and-false (eqb (byteAt s i) x || eqb (byteAt s i) y))
+          (λ (c : i < q).
+          let bracket = eqb (byteAt s i) x || eqb (byteAt s i) y in
+          ap (λ (b : Bool). bracket && not b) (on-in i l c) ∙ and-false bracket)
           (λ (c : q ≤ i).
           let z : i ≡ q = omega arith in
-          ap (λ (b : ℕ). (eqb b x || eqb b y) && not (inString inside odd s i)) (ap (byteAt s) z ∙ closing) ∙ ap (λ (b : Bool). b && not (inString inside odd s i)) e)
+          ap (λ (b : ℕ). (eqb b x || eqb b y) && not (inString inside odd s i)) (ap (byteAt s) z ∙ closing)
+          ∙ ap (λ (b : Bool). b && not (inString inside odd s i)) e)
           (lt-or-ge i q)
 
 -- a string, from its opening quote to its closing one; place a of s is place p of the record

@@ -2,7 +2,8 @@
 use mathlib.Core.List.{List, [], _∷_, _++_, List·Memᴰ}
 use Prim.Native.Nat.{ℕ, _+_, _<_, _≤_}
 use lib.ListN.{length}
-use Rattle.json.specs.Grammar.{Char, putChars, Kind, array, object, Key, Value, literal, number, string, container, Items, empty, items, More, end, more, Tree}
+use Rattle.json.specs.Grammar.{Char, putChars, Kind, array, object, Key, Value, literal, number}
+use Rattle.json.specs.Grammar.{string, container, Items, empty, items, More, end, more, Tree}
 use Rattle.select.specs.Nodes.{size, keySize}
 
 -- the places of the opening and the closing quote

@@ -14,7 +14,8 @@ use Rattle.json.specs.Append.{value-split}
 use Rattle.select.specs.Nodes.{size, keySize}
 use Rattle.strings.specs.Strings.{keyStrings, valueStrings, itemsStrings, moreStrings}
 use Rattle.strings.specs.Parts.{head, past, Marks, marks-one, marks-then, marks-to}
-use Rattle.strings.specs.Texts.{passed-blanks, passed-comma, passed-key, passed-literal, passed-number, passed-quoted, opening-after, closing-after, container-size, empty-size, end-size, items-size, more-size}
+use Rattle.strings.specs.Texts.{passed-blanks, passed-comma, passed-key, passed-literal, passed-number, passed-quoted}
+use Rattle.strings.specs.Texts.{opening-after, closing-after, container-size, empty-size, end-size, items-size, more-size}
 
 pub past-value : (s : List ℕ) (v : Value) (rest : List ℕ) (a : ℕ) → drop a s ≡ putValue v rest → drop (a + size v) s ≡ rest
 unfolding size
@@ -81,4 +82,5 @@ module _ (inside odd : Bool) (s : List ℕ) (o : ℕ) where
         let b = passed-comma w w′ (putKey k key (putValue v (putMore m rest))) a e c in
         marks-to (more-size w w′ key v m a)
         (marks-then (b .flat .marks)
-        (item-marks key v m (value-marks v) (more-marks m) rest (a + length w + 1 + length w′) (p + length w + 1 + length w′) (omega arith) (b .here) (b .flat .marks .after)))
+        (item-marks key v m (value-marks v) (more-marks m) rest (a + length w + 1 + length w′) (p + length w + 1 + length w′) (omega arith)
+        (b .here) (b .flat .marks .after)))

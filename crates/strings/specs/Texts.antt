@@ -10,7 +10,8 @@ use Rattle.blocks.specs.Words.{byteAt}
 use Rattle.blocks.specs.Laws.{Carried, carry-plain}
 use Rattle.encoding.specs.Bytes.{Blanks, putBlanks}
 use Rattle.json.specs.Grammar as G
-use Rattle.json.specs.Grammar.{Kind, Key, Literal, Minus, Int, Frac, Exp, putLiteral, putString, putKey, putValue, putItems, putMore, Char, Value, Items, More}
+use Rattle.json.specs.Grammar.{Kind, Key, Literal, Minus, Int, Frac, Exp, putLiteral, putString}
+use Rattle.json.specs.Grammar.{putKey, putValue, putItems, putMore, Char, Value, Items, More}
 use Rattle.json.specs.Append.{blanks-split, length-blanks, string-split, value-split, length-key, length-value, length-string}
 use Rattle.select.specs.Nodes.{size, keySize}
 use Rattle.strings.specs.Strings.{Quotes, quotesOf, keyStrings}
@@ -73,7 +74,8 @@ module _ {inside odd : Bool} {s : List ℕ} {o : ℕ} where
       record { flat = flat-string o cs rest a z e c; here = past s (putString cs []) rest a (e ∙ string-split cs rest) }
 
   -- what stands before an item's value
-  pub passed-key : {p : ℕ} (k : Kind) (key : Key k) (rest : List ℕ) (a : ℕ) → p ≡ o + a → drop a s ≡ putKey k key rest → Carried inside odd s a false false
+  pub passed-key : {p : ℕ} (k : Kind) (key : Key k) (rest : List ℕ) (a : ℕ) → p ≡ o + a → drop a s ≡ putKey k key rest
+      → Carried inside odd s a false false
       → Passed inside odd s o a (a + keySize k key) (keyStrings k key p) rest
   unfolding putKey keyStrings keySize calm
   passed-key G.array key rest a z e c = passed-blanks [] rest a e c

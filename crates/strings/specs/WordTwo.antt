@@ -1,5 +1,6 @@
 -- Document 01, "Words of 64 bits": in a taken record, sorted from its start with both facts false, word two is on from each string's opening quote
--- through the byte before its closing quote, and nowhere else. The same of a container that is sorted from behind its opening bracket on. Assumes nothing.
+-- through the byte before its closing quote, and nowhere else. The same of a container that is sorted from behind its opening bracket on.
+-- Assumes nothing.
 use mathlib.Core.Path.{_≡_, refl, sym, ap, subst, _∙_}
 use mathlib.Core.Bool.{Bool, true, false, false≢true}
 use mathlib.Core.List.{List, [], append-nil}
@@ -33,7 +34,9 @@ tree-marks t =
     let s : List ℕ = text t in
     let b = passed-blanks {o = 0} (t .before) (putValue (t .value) (putBlanks (t .after) [])) 0 refl (carried-start false false s) in
     let here : drop (0 + length (t .before)) s ≡ putValue (t .value) (putBlanks (t .after) []) = b .here in
-    let v = value-marks false false s 0 (t .value) (putBlanks (t .after) []) (0 + length (t .before)) (length (t .before)) (omega arith) here (b .flat .marks .after) in
+    let v =
+    value-marks false false s 0 (t .value) (putBlanks (t .after) []) (0 + length (t .before)) (length (t .before)) (omega arith) here
+    (b .flat .marks .after) in
     let w =
     passed-blanks {o = 0} (t .after) [] (0 + length (t .before) + size (t .value))
     (past-value s (t .value) (putBlanks (t .after) []) (0 + length (t .before)) here) (v .after) in
@@ -51,7 +54,9 @@ word-two t i = (on, off)
     past-end : length (text t) ≤ i → inString false false (text t) i ≡ false
     past-end l =
         let z : suc i ≡ (suc i - length (text t)) + length (text t) = omega arith in
-        ap (oddQuotes false false (text t)) z ∙ oddQuotes-past (text t) false false (length (text t)) (suc i - length (text t)) (omega arith) ∙ m .after .quoted-is
+        ap (oddQuotes false false (text t)) z
+        ∙ oddQuotes-past (text t) false false (length (text t)) (suc i - length (text t)) (omega arith)
+        ∙ m .after .quoted-is
 
     on : inString false false (text t) i ≡ true → InOne (strings t) i
     on h = ⊎-elim
@@ -75,7 +80,8 @@ facts-after t = tree-marks t .after
 
 -- ---- a part of a record, sorted by itself with both facts false
 
--- s is sorted, and its byte 0 is byte `from` of the record: over its first n bytes word two is on in the strings qs, which all stand there, and nowhere else
+-- s is sorted, and its byte 0 is byte `from` of the record: over its first n bytes word two is on in the strings qs, which all stand there,
+-- and nowhere else
 pub record WordTwo (s : List ℕ) (from n : ℕ) (qs : List Quotes) : Type 0 where
   pub on-in-strings : (i : ℕ) → i < n → (inString false false s i ≡ true) ↔ InOne qs (from + i)
   pub all-there : (j : ℕ) → InOne qs j → (from ≤ j) × (j < from + n)
@@ -101,6 +107,7 @@ module _ (s rest : List ℕ) (at : ℕ) where
       (value-marks false false (drop at s) at v rest 0 at (sym (add-zero at)) e (carried-start false false (drop at s))))
 
   -- a container from behind its opening bracket on
-  pub items-word-two : {k : Kind} (is : Items k) → drop at s ≡ putItems is rest → WordTwo (drop at s) at (length (putItems is [])) (itemsStrings is at)
+  pub items-word-two : {k : Kind} (is : Items k) → drop at s ≡ putItems is rest
+      → WordTwo (drop at s) at (length (putItems is [])) (itemsStrings is at)
   items-word-two is e = part-word-two (marks-to (zero-add (length (putItems is [])))
       (items-marks false false (drop at s) at is rest 0 at (sym (add-zero at)) e (carried-start false false (drop at s))))

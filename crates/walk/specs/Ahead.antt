@@ -29,7 +29,10 @@ module _ (next : State → Label → State) (s rest : List ℕ) (k : Kind) (st :
     pub here : drop i s ≡ putBlanks w (putKey k key (putValue v (putMore m rest)))
     pub shallow : nesting v ≤ n
     pub shallow-more : moreNesting m ≤ n
-    pub runs : tallied t (visits next v (next st (labelOf k key j)) (valueAt k i w key) ++ moreVisits next m st (j + 1) (valueAt k i w key + size v)) ≡ goal
+    pub runs :
+        tallied t
+        (visits next v (next st (labelOf k key j)) (valueAt k i w key) ++ moreVisits next m st (j + 1) (valueAt k i w key + size v))
+        ≡ goal
     pub ends : end ≡ valueAt k i w key + size v + length (putMore m [])
 
   -- an item has been passed
@@ -50,7 +53,8 @@ module _ (next : State → Label → State) (s rest : List ℕ) (k : Kind) (st :
     pub ends : end ≡ i + length (putItems is [])
 
 -- a value is ahead, with the state st, of which n levels may be opened; what follows it ends a word
-pub record ValueAhead (next : State → Label → State) (s rest : List ℕ) (st : State) (n : ℕ) (goal : Tally) (end : ℕ) (i : ℕ) (t : Tally) : Type 0 where
+pub record ValueAhead (next : State → Label → State) (s rest : List ℕ) (st : State) (n : ℕ) (goal : Tally) (end : ℕ)
+    (i : ℕ) (t : Tally) : Type 0 where
   pub v : Value
   pub here : drop i s ≡ putValue v rest
   pub stops : stopped rest ≡ true

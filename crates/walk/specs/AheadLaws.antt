@@ -47,7 +47,8 @@ pub closing-comma : (k : Kind) → closing k ≡ 0x2C → ⊥
 closing-comma G.array e = omega arith
 closing-comma G.object e = omega arith
 
-pub item-length : (k : Kind) (w : Blanks) (key : Key k) (v : Value) (u : List ℕ) → length (putBlanks w (putKey k key (putValue v u))) ≡ length w + keySize k key + size v + length u
+pub item-length : (k : Kind) (w : Blanks) (key : Key k) (v : Value) (u : List ℕ)
+    → length (putBlanks w (putKey k key (putValue v u))) ≡ length w + keySize k key + size v + length u
 unfolding keySize size
 item-length k w key v u = omega (arith, length-blanks w (putKey k key (putValue v u)), length-key k key (putValue v u), length-value v u)
 
@@ -63,7 +64,8 @@ module _ (s rest : List ℕ) (k : Kind) (i c : ℕ) (blanks : EndsBlanks s i c) 
       let x : c ≡ i + length w = blanks .exact w (0x2C ∷ u) e (solid-comma u) in
       (x, head-of s c 0x2C u (ap (λ (a : ℕ). drop a s) x ∙ past-blanks s i w (0x2C ∷ u) e))
 
-  at-item : (key : Key k) (v : Value) (u : List ℕ) → drop i s ≡ putBlanks w (putKey k key (putValue v u)) → (c < length s) × (classOf (getD s c 0) ≡ 2 → ⊥)
+  at-item : (key : Key k) (v : Value) (u : List ℕ) → drop i s ≡ putBlanks w (putKey k key (putValue v u))
+      → (c < length s) × (classOf (getD s c 0) ≡ 2 → ⊥)
   at-item key v u e =
       let x : c ≡ i + length w = blanks .exact w (putKey k key (putValue v u)) e (solid-key k key (putValue v u) (solid-value v u)) in
       starts-at s c (putKey k key (putValue v u)) (starts-key k key (putValue v u) (starts-value v u))
@@ -93,7 +95,8 @@ module _ (next : State → Label → State) (s rest : List ℕ) (k : Kind) (st :
     unfolding putItems itemsVisits tallied
     no-items f = go (x .is) (x .here) (x .runs) (x .ends)
       where
-        go : (is : Items k) → drop i s ≡ putItems is rest → tallied t (itemsVisits next is st i) ≡ goal → end ≡ i + length (putItems is []) → (t ≡ goal) × (end ≡ c + 1)
+        go : (is : Items k) → drop i s ≡ putItems is rest → tallied t (itemsVisits next is st i) ≡ goal
+            → end ≡ i + length (putItems is []) → (t ≡ goal) × (end ≡ c + 1)
         go (G.empty w) e r q = (r, omega (arith, at-closing s rest k i c blanks w e .0, length-blanks w (closing k ∷ [])))
         go (G.items w key v m) e r q = absurd (at-item s rest k i c blanks w key v (putMore m rest) e .1 f)
 
@@ -101,7 +104,8 @@ module _ (next : State → Label → State) (s rest : List ℕ) (k : Kind) (st :
     unfolding putItems itemsVisits itemsNesting
     first-item f = go (x .is) (x .here) (x .shallow) (x .runs) (x .ends)
       where
-        go : (is : Items k) → drop i s ≡ putItems is rest → itemsNesting is ≤ n → tallied t (itemsVisits next is st i) ≡ goal → end ≡ i + length (putItems is []) → ItemAt i t
+        go : (is : Items k) → drop i s ≡ putItems is rest → itemsNesting is ≤ n → tallied t (itemsVisits next is st i) ≡ goal
+            → end ≡ i + length (putItems is []) → ItemAt i t
         go (G.empty w) e l r q = absurd (f (ap classOf (at-closing s rest k i c blanks w e .1 .byte-is) ∙ closing-class k))
         go (G.items w key v m) e l r q =
             record {
@@ -137,8 +141,11 @@ module _ (next : State → Label → State) (s rest : List ℕ) (k : Kind) (st :
     pub key-solid : solid (putValue (x .v) (putMore (x .m) rest)) ≡ true
     key-solid = solid-value (x .v) (putMore (x .m) rest)
 
+    abbrev value-visits : List (Visit State)
+    value-visits = visits next (x .v) (next st (labelOf k (x .key) (x .j))) item-value
+
     -- past the value, with the tally of its visits
-    pub item-passed : (e : ℕ) (u : Tally) → e ≡ item-value + size (x .v) → tallied t (visits next (x .v) (next st (labelOf k (x .key) (x .j))) item-value) ≡ u → MoreAt e u
+    pub item-passed : (e : ℕ) (u : Tally) → e ≡ item-value + size (x .v) → tallied t value-visits ≡ u → MoreAt e u
     unfolding item-value
     item-passed e u h f =
         record {
@@ -148,7 +155,7 @@ module _ (next : State → Label → State) (s rest : List ℕ) (k : Kind) (st :
           shallow = x .shallow-more;
           runs =
               ap₂ (λ (y : Tally) (a : ℕ). tallied y (moreVisits next (x .m) st (x .j + 1) a)) (sym f) h
-              ∙ sym (tallied-append t (visits next (x .v) (next st (labelOf k (x .key) (x .j))) item-value) (moreVisits next (x .m) st (x .j + 1) (item-value + size (x .v))))
+              ∙ sym (tallied-append t value-visits (moreVisits next (x .m) st (x .j + 1) (item-value + size (x .v))))
               ∙ x .runs;
           ends = omega (arith, x .ends);
         }
@@ -167,15 +174,18 @@ module _ (next : State → Label → State) (s rest : List ℕ) (k : Kind) (st :
     unfolding putMore moreVisits tallied
     no-more f = go (x .m) (x .here) (x .runs) (x .ends)
       where
-        go : (m : More k) → drop i s ≡ putMore m rest → tallied t (moreVisits next m st (x .j) i) ≡ goal → end ≡ i + length (putMore m []) → (t ≡ goal) × (end ≡ c + 1)
+        go : (m : More k) → drop i s ≡ putMore m rest → tallied t (moreVisits next m st (x .j) i) ≡ goal
+            → end ≡ i + length (putMore m []) → (t ≡ goal) × (end ≡ c + 1)
         go (G.end w) e r q = (r, omega (arith, at-closing s rest k i c blanks w e .0, length-blanks w (closing k ∷ [])))
-        go (G.more w w′ key v m) e r q = absurd (f (at-comma s rest k i c blanks w (putBlanks w′ (putKey k key (putValue v (putMore m rest)))) e .1 .byte-is))
+        go (G.more w w′ key v m) e r q =
+            absurd (f (at-comma s rest k i c blanks w (putBlanks w′ (putKey k key (putValue v (putMore m rest)))) e .1 .byte-is))
 
     pub next-item : getD s c 0 ≡ 0x2C → ItemAt (c + 1) t
     unfolding putMore moreVisits moreNesting
     next-item f = go (x .m) (x .here) (x .shallow) (x .runs) (x .ends)
       where
-        go : (m : More k) → drop i s ≡ putMore m rest → moreNesting m ≤ n → tallied t (moreVisits next m st (x .j) i) ≡ goal → end ≡ i + length (putMore m []) → ItemAt (c + 1) t
+        go : (m : More k) → drop i s ≡ putMore m rest → moreNesting m ≤ n → tallied t (moreVisits next m st (x .j) i) ≡ goal
+            → end ≡ i + length (putMore m []) → ItemAt (c + 1) t
         go (G.end w) e l r q = absurd (closing-comma k (sym (at-closing s rest k i c blanks w e .1 .byte-is) ∙ f))
         go (G.more w w′ key v m) e l r q =
             let y = at-comma s rest k i c blanks w (putBlanks w′ (putKey k key (putValue v (putMore m rest)))) e in
@@ -189,7 +199,10 @@ module _ (next : State → Label → State) (s rest : List ℕ) (k : Kind) (st :
               here = ap (λ (a : ℕ). drop a s) (add-one c) ∙ y .1 .rest-is;
               shallow = le-trans (le-max-left (nesting v) (moreNesting m)) l;
               shallow-more = le-trans (le-max-right (nesting v) (moreNesting m)) l;
-              runs = ap (λ (a : ℕ). tallied t (visits next v (next st (labelOf k key (x .j))) a ++ moreVisits next m st (x .j + 1) (a + size v))) (sym b) ∙ r;
+              runs =
+                  ap (λ (a : ℕ). tallied t (visits next v (next st (labelOf k key (x .j))) a ++ moreVisits next m st (x .j + 1) (a + size v)))
+                  (sym b)
+                  ∙ r;
               ends =
                   omega (
                     arith,

@@ -1,4 +1,5 @@
--- A value that is ahead is a scalar, which is passed at once, or a container, which is entered: a node's first half before, its second half after. Assumes nothing.
+-- A value that is ahead is a scalar, which is passed at once, or a container, which is entered: a node's first half before, its second half
+-- after. Assumes nothing.
 use mathlib.Core.Path.{_≡_, refl, sym, ap, ap₂, _∙_}
 use mathlib.Core.Logic.{⊎-elim}
 use mathlib.Core.List.{List, [], _∷_, _++_}
@@ -15,7 +16,8 @@ use Rattle.encoding.specs.Class.{classOf}
 use Rattle.encoding.specs.ClassLaws as C
 use Rattle.json.specs.Append.{length-items}
 use Rattle.json.specs.Grammar as G
-use Rattle.json.specs.Grammar.{Literal, Minus, Int, Char, Kind, Value, Items, opening, putLiteral, putMinus, putInt, putFrac, putExp, putString, putValue, putItems, nesting, itemsNesting}
+use Rattle.json.specs.Grammar.{Literal, Minus, Int, Char, Kind, Value, Items, opening, nesting, itemsNesting}
+use Rattle.json.specs.Grammar.{putLiteral, putMinus, putInt, putFrac, putExp, putString, putValue, putItems}
 use Rattle.select.specs.Nodes.{Label, Node, size, endOf}
 use Rattle.select.specs.Visits.{Visit, visit, visits, itemsVisits}
 use Rattle.select.specs.Ways.{containerFrames}
@@ -36,7 +38,9 @@ raised-none t = go (t .stop)
     go (suc s) = refl
 
 digit-class : (x : In 0x31 0x39) → classOf (x .byte) ≡ 1 → ⊥
-digit-class x f = ⊎-elim (λ (e : x .byte ≡ 0x5B). omega (arith, to-high x)) (λ (e : x .byte ≡ 0x7B). omega (arith, to-high x)) (C.opening-class (x .byte) .0 f)
+digit-class x f =
+    ⊎-elim (λ (e : x .byte ≡ 0x5B). omega (arith, to-high x)) (λ (e : x .byte ≡ 0x7B). omega (arith, to-high x))
+    (C.opening-class (x .byte) .0 f)
 
 -- the opening bracket, by the flag of an object
 pub opening-is : (k : Kind) → kindIf (eqb (opening k) 0x7B) ≡ k
@@ -73,7 +77,8 @@ module _ (s rest : List ℕ) (i : ℕ) (f : classOf (getD s i 0) ≡ 1) where
   unfolding putString classOf
   not-string cs d = not-byte 0x22 _ (λ (z : classOf 0x22 ≡ 1). omega arith) d
 
-module _ (next : State → Label → State) (s rest : List ℕ) (st : State) (n : ℕ) (goal : Tally) (end i : ℕ) (t : Tally) (x : ValueAhead next s rest st n goal end i t) where
+module _ (next : State → Label → State) (s rest : List ℕ) (st : State) (n : ℕ) (goal : Tally) (end i : ℕ) (t : Tally)
+    (x : ValueAhead next s rest st n goal end i t) where
   abbrev begun : Tally
   begun = begin (st .picked) t i
 
@@ -82,7 +87,8 @@ module _ (next : State → Label → State) (s rest : List ℕ) (st : State) (n 
   unfolding visits tallied containerFrames endOf putValue
   scalar-passed e f h = go (x .v) (x .here) (x .runs) (x .ends)
     where
-      one : (v : Value) → IsScalar v → drop i s ≡ putValue v rest → containerFrames v (st .frames) ≡ 0 → tallied t (visit st v i ∷ []) ≡ goal → end ≡ i + size v
+      one : (v : Value) → IsScalar v → drop i s ≡ putValue v rest → containerFrames v (st .frames) ≡ 0
+          → tallied t (visit st v i ∷ []) ≡ goal → end ≡ i + size v
           → (finish (waiting (st .picked) t) e begun ≡ goal) × (e ≡ end)
       one v c d z r q =
           let g : e ≡ i + size v = h .exact v rest c d (x .stops) in (
@@ -92,7 +98,8 @@ module _ (next : State → Label → State) (s rest : List ℕ) (st : State) (n 
             g ∙ sym q,
           )
 
-      go : (v : Value) → drop i s ≡ putValue v rest → tallied t (visits next v st i) ≡ goal → end ≡ i + size v → (finish (waiting (st .picked) t) e begun ≡ goal) × (e ≡ end)
+      go : (v : Value) → drop i s ≡ putValue v rest → tallied t (visits next v st i) ≡ goal → end ≡ i + size v
+          → (finish (waiting (st .picked) t) e begun ≡ goal) × (e ≡ end)
       go (G.literal l) d r q = one (G.literal l) tt d refl r q
       go (G.number g m y z) d r q = one (G.number g m y z) tt d refl r q
       go (G.string cs) d r q = one (G.string cs) tt d refl r q
@@ -127,7 +134,10 @@ module _ (next : State → Label → State) (s rest : List ℕ) (st : State) (n 
                   runs = refl;
                   ends = omega arith;
                 });
-            closes = ap (λ (a : ℕ). finish (waiting (st .picked) t) a inner) q ∙ sym (visit-halves t (visit st (G.container k is) i) (itemsVisits next is st (i + 1))) ∙ r;
+            closes =
+                ap (λ (a : ℕ). finish (waiting (st .picked) t) a inner) q
+                ∙ sym (visit-halves t (visit st (G.container k is) i) (itemsVisits next is st (i + 1)))
+                ∙ r;
           }
 
       go : (v : Value) → drop i s ≡ putValue v rest → nesting v ≤ n → tallied t (visits next v st i) ≡ goal → end ≡ i + size v → Entered

@@ -21,7 +21,9 @@ add-result : tie.Need-add-result
 add-result c = search needs
 
 returns : tie.Need-returns
-returns c = load-join _ (λ k. omega (arith, c .before .before .shared-slice-known .given k)) _ 1 1 _ _ (c .before .load1 .ensures) (c .load12 .ensures)
+returns c =
+    let first = c .before in
+    load-join _ (λ k. omega (arith, first .before .shared-slice-known .given k)) _ 1 1 _ _ (first .load1 .ensures) (c .load12 .ensures)
 
 pub load2-spec : {M : Type 1} → statement M
 load2-spec =

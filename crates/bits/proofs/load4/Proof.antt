@@ -21,7 +21,9 @@ add-result : tie.Need-add-result
 add-result c = search needs
 
 returns : tie.Need-returns
-returns c = load-join _ (λ k. omega (arith, c .before .before .shared-slice-known .given k)) _ 2 2 _ _ (c .before .load2 .ensures) (c .load22 .ensures)
+returns c =
+    let first = c .before in
+    load-join _ (λ k. omega (arith, first .before .shared-slice-known .given k)) _ 2 2 _ _ (first .load2 .ensures) (c .load22 .ensures)
 
 pub load4-spec : {M : Type 1} → statement M
 load4-spec =

@@ -21,7 +21,9 @@ add-result : tie.Need-add-result
 add-result c = search needs
 
 returns : tie.Need-returns
-returns c = load-join _ (λ k. omega (arith, c .before .before .shared-slice-known .given k)) _ 4 4 _ _ (c .before .load4 .ensures) (c .load42 .ensures)
+returns c =
+    let first = c .before in
+    load-join _ (λ k. omega (arith, first .before .shared-slice-known .given k)) _ 4 4 _ _ (first .load4 .ensures) (c .load42 .ensures)
 
 pub load8-spec : {M : Type 1} → statement M
 load8-spec =

@@ -23,172 +23,187 @@ use Rattle.scan.proofs.scalar_end.Reads as scalar-end-reads
 use Rattle.find.proofs.+seek_inside+seek_value.{statement}
 use Rattle.find.proofs.+seek_inside+seek_value.Tie.{close}
 
-abbrev μ-seek-inside : Measures 2 seek-inside-kinds.ps ℕ
-μ-seek-inside κs a = a .1 .1 .1 .1 .1 .0 + a .1 .1 .1 .1 .1 .0 + 1
+-- the measures: twice the levels left, and one more for items
+abbrev inside-levels : Measures 2 seek-inside-kinds.ps ℕ
+inside-levels κs a = a .1 .1 .1 .1 .1 .0 + a .1 .1 .1 .1 .1 .0 + 1
 
-abbrev μ-seek-value : Measures 2 seek-value-kinds.ps ℕ
-μ-seek-value κs a = a .1 .1 .1 .1 .0 + a .1 .1 .1 .1 .0
+abbrev value-levels : Measures 2 seek-value-kinds.ps ℕ
+value-levels κs a = a .1 .1 .1 .1 .0 + a .1 .1 .1 .1 .0
 
-abbrev seek-inside-at : ℕ → In 2 seek-inside-kinds.ps
-seek-inside-at t =
-    and 2 seek-inside-kinds.ps (is 2 seek-inside-kinds.ps μ-seek-inside t) seek-inside.Pre
+abbrev inside-at : ℕ → In 2 seek-inside-kinds.ps
+inside-at t = and 2 seek-inside-kinds.ps (is 2 seek-inside-kinds.ps inside-levels t) seek-inside.Pre
 
-abbrev seek-inside-below : ℕ → In 2 seek-inside-kinds.ps
-seek-inside-below t =
-    and 2 seek-inside-kinds.ps (falls 2 seek-inside-kinds.ps _<_ μ-seek-inside t) seek-inside.Pre
+abbrev inside-below : ℕ → In 2 seek-inside-kinds.ps
+inside-below t = and 2 seek-inside-kinds.ps (falls 2 seek-inside-kinds.ps _<_ inside-levels t) seek-inside.Pre
 
-abbrev seek-value-at : ℕ → In 2 seek-value-kinds.ps
-seek-value-at t =
-    and 2 seek-value-kinds.ps (is 2 seek-value-kinds.ps μ-seek-value t) seek-value.Pre
+abbrev value-at : ℕ → In 2 seek-value-kinds.ps
+value-at t = and 2 seek-value-kinds.ps (is 2 seek-value-kinds.ps value-levels t) seek-value.Pre
 
-abbrev seek-value-below : ℕ → In 2 seek-value-kinds.ps
-seek-value-below t =
-    and 2 seek-value-kinds.ps (falls 2 seek-value-kinds.ps _<_ μ-seek-value t) seek-value.Pre
+abbrev value-below : ℕ → In 2 seek-value-kinds.ps
+value-below t = and 2 seek-value-kinds.ps (falls 2 seek-value-kinds.ps _<_ value-levels t) seek-value.Pre
 
-abbrev seek-inside-claims : ℕ → seek-inside-lts.Claims
-seek-inside-claims t = (
+-- what the functions that are called ask and promise
+abbrev inside-claims : ℕ → seek-inside-lts.Claims
+inside-claims t = (
   first-item-reads.Asked,
   first-item-reads.Learnt,
   enter-item-reads.Asked,
   enter-item-reads.Learnt,
-  seek-value-below t,
+  value-below t,
   seek-value.Post,
   next-item-reads.Asked,
   next-item-reads.Learnt,
 )
 
-abbrev seek-value-claims : ℕ → seek-value-lts.Claims
-seek-value-claims t = (
+abbrev value-claims : ℕ → seek-value-lts.Claims
+value-claims t = (
   value-end-reads.Asked,
   value-end-reads.Learnt,
   class-reads.Asked,
   class-reads.Learnt,
   scalar-end-reads.Asked,
   scalar-end-reads.Learnt,
-  seek-inside-below t,
+  inside-below t,
   seek-inside.Post,
 )
 
-abbrev seek-inside-Inv-loop : seek-inside-lts.InvT-loop
-seek-inside-Inv-loop classes «record» offset at object levels ahead₀ ahead = Going «record» offset at object levels (ahead .item) (ahead .at)
+abbrev inside-inv : seek-inside-lts.InvT-loop
+inside-inv classes «record» offset at object levels ahead₀ ahead = Going «record» offset at object levels (ahead .item) (ahead .at)
 
-abbrev seek-inside-μ-loop : seek-inside-lts.MeasureT-loop
-seek-inside-μ-loop classes «record» offset at object levels ahead₀ ahead = turnsLeft «record» (ahead .item) (ahead .at)
+abbrev inside-measure : seek-inside-lts.MeasureT-loop
+inside-measure classes «record» offset at object levels ahead₀ ahead = turnsLeft «record» (ahead .item) (ahead .at)
 
-seek-inside-first-item-requires : (t : ℕ) → seek-inside-lts.Need-first-item-requires (seek-inside-claims t) (seek-inside-at t) seek-inside.Post seek-inside-Inv-loop seek-inside-μ-loop
-seek-inside-first-item-requires t c κs = search needs
+-- the items of a container, where the measure is t
+module _ (t : ℕ) where
+  inside-first-item-requires : seek-inside-lts.Need-first-item-requires (inside-claims t) (inside-at t) seek-inside.Post inside-inv inside-measure
+  inside-first-item-requires c κs = search needs
 
-seek-inside-loop-holds : (t : ℕ) → seek-inside-lts.Need-loop-holds (seek-inside-claims t) (seek-inside-at t) seek-inside.Post seek-inside-Inv-loop seek-inside-μ-loop
-seek-inside-loop-holds t c = going-first _ _ _ _ _ _ _ (c .first-item .ensures)
+  inside-loop-holds : seek-inside-lts.Need-loop-holds (inside-claims t) (inside-at t) seek-inside.Post inside-inv inside-measure
+  inside-loop-holds c = going-first _ _ _ _ _ _ _ (c .first-item .ensures)
 
-seek-inside-enter-item-requires : (t : ℕ) → seek-inside-lts.Need-enter-item-requires (seek-inside-claims t) (seek-inside-at t) seek-inside.Post seek-inside-Inv-loop seek-inside-μ-loop
-seek-inside-enter-item-requires t c κs = search needs
+  inside-enter-item-requires : seek-inside-lts.Need-enter-item-requires (inside-claims t) (inside-at t) seek-inside.Post inside-inv inside-measure
+  inside-enter-item-requires c κs = search needs
 
-seek-inside-seek-value-requires : (t : ℕ) → seek-inside-lts.Need-seek-value-requires (seek-inside-claims t) (seek-inside-at t) seek-inside.Post seek-inside-Inv-loop seek-inside-μ-loop
-seek-inside-seek-value-requires t c κs = search needs
+  inside-seek-value-requires : seek-inside-lts.Need-seek-value-requires (inside-claims t) (inside-at t) seek-inside.Post inside-inv inside-measure
+  inside-seek-value-requires c κs = search needs
 
-seek-inside-returns : (t : ℕ) → seek-inside-lts.Need-returns (seek-inside-claims t) (seek-inside-at t) seek-inside.Post seek-inside-Inv-loop seek-inside-μ-loop
-seek-inside-returns t c =
-    going-found _ _ _ _ _ _ _ (c .before .before .before .before .before .loop .inv) (c .before .before .before .before .loop-test .taken) _
-    _ _ (c .before .before .before .enter-item .ensures) _ _ (c .before .before .seek-value .ensures) (c .if1 .taken)
+  inside-returns : seek-inside-lts.Need-returns (inside-claims t) (inside-at t) seek-inside.Post inside-inv inside-measure
+  inside-returns c =
+      let sought = c .before .before in
+      let entered = sought .before in
+      let test = entered .before in
+      going-found _ _ _ _ _ _ _ (test .before .loop .inv) (test .loop-test .taken) _ _ _ (entered .enter-item .ensures) _ _
+      (sought .seek-value .ensures) (c .if1 .taken)
 
-seek-inside-next-item-requires : (t : ℕ) → seek-inside-lts.Need-next-item-requires (seek-inside-claims t) (seek-inside-at t) seek-inside.Post seek-inside-Inv-loop seek-inside-μ-loop
-seek-inside-next-item-requires t c κs = search needs
+  inside-next-item-requires : seek-inside-lts.Need-next-item-requires (inside-claims t) (inside-at t) seek-inside.Post inside-inv inside-measure
+  inside-next-item-requires c κs = search needs
 
-seek-inside-loop-less : (t : ℕ) → seek-inside-lts.Need-loop-less (seek-inside-claims t) (seek-inside-at t) seek-inside.Post seek-inside-Inv-loop seek-inside-μ-loop
-seek-inside-loop-less t c =
-    going-falls _ _ _ _ _ _ _ (c .before .before .before .before .before .before .loop .inv)
-    (c .before .before .before .before .before .loop-test .taken) _ _ _ (c .before .before .before .before .enter-item .ensures) _ _
-    (c .before .before .before .seek-value .ensures) _ _ (c .next-item .ensures)
+  inside-loop-less : seek-inside-lts.Need-loop-less (inside-claims t) (inside-at t) seek-inside.Post inside-inv inside-measure
+  inside-loop-less c =
+      let sought = c .before .before .before in
+      let entered = sought .before in
+      let test = entered .before in
+      going-falls _ _ _ _ _ _ _ (test .before .loop .inv) (test .loop-test .taken) _ _ _ (entered .enter-item .ensures) _ _
+      (sought .seek-value .ensures) _ _ (c .next-item .ensures)
 
-seek-inside-loop-again : (t : ℕ) → seek-inside-lts.Need-loop-again (seek-inside-claims t) (seek-inside-at t) seek-inside.Post seek-inside-Inv-loop seek-inside-μ-loop
-seek-inside-loop-again t c =
-    going-on _ _ _ _ _ _ _ (c .before .before .before .before .before .before .loop .inv)
-    (c .before .before .before .before .before .loop-test .taken) _ _ _ (c .before .before .before .before .enter-item .ensures) _ _
-    (c .before .before .before .seek-value .ensures) (c .before .if1 .left) _ _ (c .next-item .ensures)
+  inside-loop-again : seek-inside-lts.Need-loop-again (inside-claims t) (inside-at t) seek-inside.Post inside-inv inside-measure
+  inside-loop-again c =
+      let sought = c .before .before .before in
+      let entered = sought .before in
+      let test = entered .before in
+      going-on _ _ _ _ _ _ _ (test .before .loop .inv) (test .loop-test .taken) _ _ _ (entered .enter-item .ensures) _ _
+      (sought .seek-value .ensures) (c .before .if1 .left) _ _ (c .next-item .ensures)
 
-seek-inside-returns-2 : (t : ℕ) → seek-inside-lts.Need-returns-2 (seek-inside-claims t) (seek-inside-at t) seek-inside.Post seek-inside-Inv-loop seek-inside-μ-loop
-seek-inside-returns-2 t c = going-left _ _ _ _ _ _ _ (c .before .loop .inv) (c .loop-test .left)
+  inside-returns-2 : seek-inside-lts.Need-returns-2 (inside-claims t) (inside-at t) seek-inside.Post inside-inv inside-measure
+  inside-returns-2 c = going-left _ _ _ _ _ _ _ (c .before .loop .inv) (c .loop-test .left)
 
-seek-value-value-end-requires : (t : ℕ) → seek-value-lts.Need-value-end-requires (seek-value-claims t) (seek-value-at t) seek-value.Post
-seek-value-value-end-requires t c κs = search needs
+-- a value
+module _ (t : ℕ) where
+  value-value-end-requires : seek-value-lts.Need-value-end-requires (value-claims t) (value-at t) seek-value.Post
+  value-value-end-requires c κs = search needs
 
-seek-value-returns : (t : ℕ) → seek-value-lts.Need-returns (seek-value-claims t) (seek-value-at t) seek-value.Post
-seek-value-returns t c = seeks-there _ _ _ _ _ (c .before .if1 .taken) (c .value-end .ensures)
+  value-returns : seek-value-lts.Need-returns (value-claims t) (value-at t) seek-value.Post
+  value-returns c = seeks-there _ _ _ _ _ (c .before .if1 .taken) (c .value-end .ensures)
 
-seek-value-value-end-requires-2 : (t : ℕ) → seek-value-lts.Need-value-end-requires-2 (seek-value-claims t) (seek-value-at t) seek-value.Post
-seek-value-value-end-requires-2 t c κs = search needs
+  value-value-end-requires-2 : seek-value-lts.Need-value-end-requires-2 (value-claims t) (value-at t) seek-value.Post
+  value-value-end-requires-2 c κs = search needs
 
-seek-value-returns-2 : (t : ℕ) → seek-value-lts.Need-returns-2 (seek-value-claims t) (seek-value-at t) seek-value.Post
-seek-value-returns-2 t c = seeks-behind _ _ _ _ _ (c .before .if2 .taken) (c .value-end2 .ensures)
+  value-returns-2 : seek-value-lts.Need-returns-2 (value-claims t) (value-at t) seek-value.Post
+  value-returns-2 c = seeks-behind _ _ _ _ _ (c .before .if2 .taken) (c .value-end2 .ensures)
 
-seek-value-returns-3 : (t : ℕ) → seek-value-lts.Need-returns-3 (seek-value-claims t) (seek-value-at t) seek-value.Post
-seek-value-returns-3 t c = seeks-outside _ _ _ _ (c .before .before .before .before .pre .1 .1 .0) (c .if3 .taken)
+  value-returns-3 : seek-value-lts.Need-returns-3 (value-claims t) (value-at t) seek-value.Post
+  value-returns-3 c = seeks-outside _ _ _ _ (c .before .before .before .before .pre .1 .1 .0) (c .if3 .taken)
 
-seek-value-shared-slice-read-b : (t : ℕ) → seek-value-lts.Need-shared-slice-read-b (seek-value-claims t) (seek-value-at t) seek-value.Post
-seek-value-shared-slice-read-b t c = search needs
+  value-shared-slice-read-b : seek-value-lts.Need-shared-slice-read-b (value-claims t) (value-at t) seek-value.Post
+  value-shared-slice-read-b c = search needs
 
-seek-value-class-requires : (t : ℕ) → seek-value-lts.Need-class-requires (seek-value-claims t) (seek-value-at t) seek-value.Post
-seek-value-class-requires t c κs = search needs
+  value-class-requires : seek-value-lts.Need-class-requires (value-claims t) (value-at t) seek-value.Post
+  value-class-requires c κs = search needs
 
-seek-value-scalar-end-requires : (t : ℕ) → seek-value-lts.Need-scalar-end-requires (seek-value-claims t) (seek-value-at t) seek-value.Post
-seek-value-scalar-end-requires t c κs = search needs
+  value-scalar-end-requires : seek-value-lts.Need-scalar-end-requires (value-claims t) (value-at t) seek-value.Post
+  value-scalar-end-requires c κs = search needs
 
-seek-value-returns-4 : (t : ℕ) → seek-value-lts.Need-returns-4 (seek-value-claims t) (seek-value-at t) seek-value.Post
-seek-value-returns-4 t c =
-    seeks-scalar _ _ _ _ _ (c .before .before .before .before .before .before .if1 .left)
-    (λ z. c .before .if4 .taken (c .before .before .class .ensures ∙ z)) (c .scalar-end .ensures)
+  value-returns-4 : seek-value-lts.Need-returns-4 (value-claims t) (value-at t) seek-value.Post
+  value-returns-4 c =
+      seeks-scalar _ _ _ _ _ (c .before .before .before .before .before .before .if1 .left)
+      (λ z. c .before .if4 .taken (c .before .before .class .ensures ∙ z)) (c .scalar-end .ensures)
 
-seek-value-returns-5 : (t : ℕ) → seek-value-lts.Need-returns-5 (seek-value-claims t) (seek-value-at t) seek-value.Post
-seek-value-returns-5 t c =
-    seeks-deeper _ _ _ _ (c .before .before .before .before .before .before .before .before .pre .1 .1 .0)
-    (sym (c .before .before .class .ensures) ∙ c .before .if4 .left) (c .if5 .taken)
+  value-returns-5 : seek-value-lts.Need-returns-5 (value-claims t) (value-at t) seek-value.Post
+  value-returns-5 c =
+      seeks-deeper _ _ _ _ (c .before .before .before .before .before .before .before .before .pre .1 .1 .0)
+      (sym (c .before .before .class .ensures) ∙ c .before .if4 .left) (c .if5 .taken)
 
-seek-value-add-seek-inside : (t : ℕ) → seek-value-lts.Need-add-seek-inside (seek-value-claims t) (seek-value-at t) seek-value.Post
-seek-value-add-seek-inside t c = search needs
+  value-add-seek-inside : seek-value-lts.Need-add-seek-inside (value-claims t) (value-at t) seek-value.Post
+  value-add-seek-inside c = search needs
 
-seek-value-sub-seek-inside : (t : ℕ) → seek-value-lts.Need-sub-seek-inside (seek-value-claims t) (seek-value-at t) seek-value.Post
-seek-value-sub-seek-inside t c = search needs
+  value-sub-seek-inside : seek-value-lts.Need-sub-seek-inside (value-claims t) (value-at t) seek-value.Post
+  value-sub-seek-inside c = search needs
 
-seek-value-seek-inside-requires : (t : ℕ) → seek-value-lts.Need-seek-inside-requires (seek-value-claims t) (seek-value-at t) seek-value.Post
-seek-value-seek-inside-requires t c κs =
-    let pre = c .before .before .before .before .before .before .before .before .pre in
-    (omega (arith, c .if5 .left), (pre .1 .0, (omega (arith, c .before .before .before .before .if3 .left), pre .1 .1 .1)))
+  value-seek-inside-requires : seek-value-lts.Need-seek-inside-requires (value-claims t) (value-at t) seek-value.Post
+  value-seek-inside-requires c κs =
+      let pre = c .before .before .before .before .before .before .before .before .pre in
+      (omega (arith, c .if5 .left), (pre .1 .0, (omega (arith, c .before .before .before .before .if3 .left), pre .1 .1 .1)))
 
-seek-value-returns-6 : (t : ℕ) → seek-value-lts.Need-returns-6 (seek-value-claims t) (seek-value-at t) seek-value.Post
-seek-value-returns-6 t c =
-    seeks-below _ _ _ _ _ _ (c .before .before .before .before .before .before .before .if1 .left)
-    (sym (c .before .before .before .class .ensures) ∙ c .before .before .if4 .left) (c .before .if5 .left) (c .seek-inside .ensures)
+  value-returns-6 : seek-value-lts.Need-returns-6 (value-claims t) (value-at t) seek-value.Post
+  value-returns-6 c =
+      seeks-below _ _ _ _ _ _ (c .before .before .before .before .before .before .before .if1 .left)
+      (sym (c .before .before .before .class .ensures) ∙ c .before .before .if4 .left) (c .before .if5 .left) (c .seek-inside .ensures)
 
 pub +seek-inside+seek-value-spec : {M : Type 1} → statement M
-+seek-inside+seek-value-spec = close μ-seek-inside μ-seek-value (λ t. seek-inside-lts.spec (seek-inside-claims t)
-    (seek-inside-at t)
++seek-inside+seek-value-spec =
+    close
+    inside-levels
+    value-levels
+    (λ t. seek-inside-lts.spec
+    (inside-claims t)
+    (inside-at t)
     seek-inside.Post
-    seek-inside-Inv-loop
-    seek-inside-μ-loop
-    (seek-inside-first-item-requires t)
-    (seek-inside-loop-holds t)
-    (seek-inside-enter-item-requires t)
-    (seek-inside-seek-value-requires t)
-    (seek-inside-returns t)
-    (seek-inside-next-item-requires t)
-    (seek-inside-loop-less t)
-    (seek-inside-loop-again t)
-    (seek-inside-returns-2 t))
-    λ t. seek-value-lts.spec (seek-value-claims t)
-    (seek-value-at t)
+    inside-inv
+    inside-measure
+    (inside-first-item-requires t)
+    (inside-loop-holds t)
+    (inside-enter-item-requires t)
+    (inside-seek-value-requires t)
+    (inside-returns t)
+    (inside-next-item-requires t)
+    (inside-loop-less t)
+    (inside-loop-again t)
+    (inside-returns-2 t))
+    (λ t. seek-value-lts.spec
+    (value-claims t)
+    (value-at t)
     seek-value.Post
-    (seek-value-value-end-requires t)
-    (seek-value-returns t)
-    (seek-value-value-end-requires-2 t)
-    (seek-value-returns-2 t)
-    (seek-value-returns-3 t)
-    (seek-value-shared-slice-read-b t)
-    (seek-value-class-requires t)
-    (seek-value-scalar-end-requires t)
-    (seek-value-returns-4 t)
-    (seek-value-returns-5 t)
-    (seek-value-add-seek-inside t)
-    (seek-value-sub-seek-inside t)
-    (seek-value-seek-inside-requires t)
-    (seek-value-returns-6 t)
+    (value-value-end-requires t)
+    (value-returns t)
+    (value-value-end-requires-2 t)
+    (value-returns-2 t)
+    (value-returns-3 t)
+    (value-shared-slice-read-b t)
+    (value-class-requires t)
+    (value-scalar-end-requires t)
+    (value-returns-4 t)
+    (value-returns-5 t)
+    (value-add-seek-inside t)
+    (value-sub-seek-inside t)
+    (value-seek-inside-requires t)
+    (value-returns-6 t))

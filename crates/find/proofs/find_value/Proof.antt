@@ -19,12 +19,14 @@ find-from-requires c κs =
 
 returns-2 : tie.Need-returns-2
 returns-2 c =
-    finds-none _ _ (record-is (c .before .before .before .before .before .before .check-record .ensures) (c .before .before .before .before .if1 .left) .1)
+    let checked = c .before .before .before .before in
+    finds-none _ _ (record-is (checked .before .before .check-record .ensures) (checked .if1 .left) .1)
     (c .before .find-from .ensures) (c .if2 .taken)
 
 returns-3 : tie.Need-returns-3
 returns-3 c =
-    finds-end _ _ (record-is (c .before .before .before .before .before .before .check-record .ensures) (c .before .before .before .before .if1 .left) .1)
+    let checked = c .before .before .before .before in
+    finds-end _ _ (record-is (checked .before .before .check-record .ensures) (checked .if1 .left) .1)
     (c .before .find-from .ensures) (c .if2 .left)
 
 pub find-value-spec : {M : Type 1} → statement M

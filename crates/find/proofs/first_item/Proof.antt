@@ -21,7 +21,9 @@ add-t10 : tie.Need-add-t10
 add-t10 c = search needs
 
 returns-2 : tie.Need-returns-2
-returns-2 c = first-closed _ _ _ (c .before .before .before .before .skip-blanks .ensures) (c .before .before .before .if1 .left) (sym (c .before .class .ensures) ∙ c .if2 .taken)
+returns-2 c =
+    let inside = c .before .before .before in
+    first-closed _ _ _ (inside .before .skip-blanks .ensures) (inside .if1 .left) (sym (c .before .class .ensures) ∙ c .if2 .taken)
 
 returns-3 : tie.Need-returns-3
 returns-3 c = first-ahead _ _ _ (c .before .before .before .before .skip-blanks .ensures) (λ z. c .if2 .left (c .before .class .ensures ∙ z))

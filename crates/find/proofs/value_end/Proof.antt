@@ -21,7 +21,9 @@ leave-requires : tie.Need-leave-requires
 leave-requires c κs = search needs
 
 returns-2 : tie.Need-returns-2
-returns-2 c = ends-container _ _ _ (c .before .before .before .before .if1 .left) (sym (c .before .before .class .ensures) ∙ c .before .if2 .taken) (c .leave .ensures)
+returns-2 c =
+    let classed = c .before .before in
+    ends-container _ _ _ (classed .before .before .if1 .left) (sym (classed .class .ensures) ∙ c .before .if2 .taken) (c .leave .ensures)
 
 scalar-end-requires : tie.Need-scalar-end-requires
 scalar-end-requires c κs = search needs

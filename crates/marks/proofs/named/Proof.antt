@@ -30,7 +30,9 @@ loop-less : tie.Need-loop-less Inv-loop μ-loop
 loop-less c = omega arith
 
 loop-again : tie.Need-loop-again Inv-loop μ-loop
-loop-again c = upto-more _ _ _ _ _ _ (c .before .before .loop-test .taken) (c .before .before .before .loop .inv) (c .before .hit .ensures) (c .with-bit .ensures)
+loop-again c =
+    let test = c .before .before in
+    upto-more _ _ _ _ _ _ (test .loop-test .taken) (test .before .loop .inv) (c .before .hit .ensures) (c .with-bit .ensures)
 
 returns : tie.Need-returns Inv-loop μ-loop
 returns c = upto-all _ _ _ _ (c .before .loop .inv) (c .loop-test .left)

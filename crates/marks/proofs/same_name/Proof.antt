@@ -32,7 +32,10 @@ shared-slice-read-if2-2 : tie.Need-shared-slice-read-if2-2 Inv-loop μ-loop
 shared-slice-read-if2-2 c = search needs
 
 returns-2 : tie.Need-returns-2 Inv-loop μ-loop
-returns-2 c = agree-no (c .before .before .before .before .before .before .pre .0 .1) (c .before .before .before .before .before .before .pre .1 .1) (c .before .before .before .before .loop .inv) (c .before .before .before .loop-test .taken) (c .if2 .taken)
+returns-2 c =
+    let at-loop = c .before .before .before .before in
+    let pre = at-loop .before .before .pre in
+    agree-no (pre .0 .1) (pre .1 .1) (at-loop .loop .inv) (c .before .before .before .loop-test .taken) (c .if2 .taken)
 
 add-i : tie.Need-add-i Inv-loop μ-loop
 add-i c = search needs
@@ -44,10 +47,16 @@ loop-less : tie.Need-loop-less Inv-loop μ-loop
 loop-less c = search needs
 
 loop-again : tie.Need-loop-again Inv-loop μ-loop
-loop-again c = agree-on (c .before .before .before .before .before .before .pre .0 .1) (c .before .before .before .before .before .before .pre .1 .1) (c .before .before .before .before .loop .inv) (c .before .before .before .loop-test .taken) (c .if2 .left)
+loop-again c =
+    let at-loop = c .before .before .before .before in
+    let pre = at-loop .before .before .pre in
+    agree-on (pre .0 .1) (pre .1 .1) (at-loop .loop .inv) (c .before .before .before .loop-test .taken) (c .if2 .left)
 
 returns-3 : tie.Need-returns-3 Inv-loop μ-loop
-returns-3 c = agree-all (c .before .before .before .pre .0 .1) (c .before .before .before .pre .1 .1) (c .before .loop .inv) (c .loop-test .left)
+returns-3 c =
+    let at-loop = c .before in
+    let pre = at-loop .before .before .pre in
+    agree-all (pre .0 .1) (pre .1 .1) (at-loop .loop .inv) (c .loop-test .left)
 
 pub same-name-spec : {M : Type 1} → statement M
 same-name-spec =

@@ -22,7 +22,9 @@ cast-to : tie.Need-cast-to
 cast-to c = search needs
 
 same-name-requires : tie.Need-same-name-requires
-same-name-requires c κs = ((c .before .before .before .before .pre .0 .0 .order _ (c .before .before .before .before .pre .0 .1), c .before .before .before .before .pre .0 .0 .within _ (c .before .before .before .before .pre .0 .1)), c .before .before .before .before .pre .1)
+same-name-requires c κs =
+    let pre = c .before .before .before .before .pre in
+    ((pre .0 .0 .order _ (pre .0 .1), pre .0 .0 .within _ (pre .0 .1)), pre .1)
 
 returns : tie.Need-returns
 returns c = search needs

@@ -9,7 +9,8 @@ use borrow.Author.Needs.{needs}
 use borrow.Fn.Kinds.{In}
 use borrow.Fn.PlainCycle.{Measures, is, falls, and}
 use Rattle.plain.specs.Plain.{stateOf, tallyOf}
-use Rattle.plain.proofs.Laws.{value-past, value-too-deep, value-scalar, value-container, AtItem, items-cut, items-none, items-begin, item-walked, more-cut, more-none, more-again}
+use Rattle.plain.proofs.Laws.{value-past, value-too-deep, value-scalar, value-container}
+use Rattle.plain.proofs.Laws.{AtItem, items-cut, items-none, items-begin, item-walked, more-cut, more-none, more-again}
 use Rattle.plain.proofs.walk_items.Reads as walk-items
 use Rattle.plain.proofs.walk_items.Kinds as walk-items-kinds
 use Rattle.plain.proofs.+walk_items+walk_value.Lts-walk_items as walk-items-lts
@@ -99,10 +100,15 @@ module _ (t : ℕ) where
   items-add-end c = search needs
 
   items-returns-2 : walk-items-lts.Need-returns-2 (items-claims t) (items-at t) walk-items.Post items-inv items-measure
-  items-returns-2 c = items-none (c .before .before .before .before .skip-blanks .ensures) (c .before .before .before .if1 .left) (sym (c .before .class .ensures) ∙ c .if2 .taken)
+  items-returns-2 c =
+      let inside = c .before .before .before in
+      items-none (inside .before .skip-blanks .ensures) (inside .if1 .left) (sym (c .before .class .ensures) ∙ c .if2 .taken)
 
   items-loop-holds : walk-items-lts.Need-loop-holds (items-claims t) (items-at t) walk-items.Post items-inv items-measure
-  items-loop-holds c = (refl, items-begin (c .before .before .before .before .before .before .before .before .pre .1 .1 .1 .1) (c .before .before .before .before .skip-blanks .ensures) (λ e. c .if2 .left (c .before .class .ensures ∙ e)))
+  items-loop-holds c =
+      let blanks = c .before .before .before .before in
+      let asked = blanks .before .before .before .before .pre in
+      (refl, items-begin (asked .1 .1 .1 .1) (blanks .skip-blanks .ensures) (λ e. c .if2 .left (c .before .class .ensures ∙ e)))
 
   items-enter-child-requires : walk-items-lts.Need-enter-child-requires (items-claims t) (items-at t) walk-items.Post items-inv items-measure
   items-enter-child-requires c κs = search needs
@@ -110,8 +116,9 @@ module _ (t : ℕ) where
   items-walk-value-requires : walk-items-lts.Need-walk-value-requires (items-claims t) (items-at t) walk-items.Post items-inv items-measure
   items-walk-value-requires c κs =
       let asked = c .before .before .before .before .before .before .before .before .before .before .before .before .pre in
+      let bounds = asked .1 .1 .1 in
       let child = c .before .before .enter-child .ensures in
-      (omega (arith, asked .0), (asked .1 .0, (asked .1 .1 .0, (asked .1 .1 .1 .0, child .within, omega (arith, asked .1 .1 .1 .2, child .one-more)))))
+      (omega (arith, asked .0), (asked .1 .0, (asked .1 .1 .0, (bounds .0, child .within, omega (arith, bounds .2, child .one-more)))))
 
   items-skip-blanks-requires-2 : walk-items-lts.Need-skip-blanks-requires-2 (items-claims t) (items-at t) walk-items.Post items-inv items-measure
   items-skip-blanks-requires-2 c κs = search needs
@@ -121,30 +128,41 @@ module _ (t : ℕ) where
 
   items-returns-3 : walk-items-lts.Need-returns-3 (items-claims t) (items-at t) walk-items.Post items-inv items-measure
   items-returns-3 c =
-      let w = c .before .before .before .before .before in
-      more-cut (item-walked (w .before .before .before .before .loop .inv .1) (w .before .before .before .enter-child .ensures) (w .walk-value .ensures)) (c .before .skip-blanks2 .ensures) (c .if3 .taken)
+      let walked = c .before .before .before .before .before in
+      let entered = walked .before .before .before in
+      let item = item-walked (entered .before .loop .inv .1) (entered .enter-child .ensures) (walked .walk-value .ensures) in
+      more-cut item (c .before .skip-blanks2 .ensures) (c .if3 .taken)
 
   items-shared-slice-read-byte : walk-items-lts.Need-shared-slice-read-byte (items-claims t) (items-at t) walk-items.Post items-inv items-measure
   items-shared-slice-read-byte c = search needs
 
-  items-add-after : walk-items-lts.Need-add-after (items-claims t) (items-at t) walk-items.Post items-inv items-measure
-  items-add-after c = omega (arith, c .before .before .before .before .before .before .before .before .before .before .before .before .before .before .before .before .before .before .before .pre .1 .1 .1 .0, c .before .if3 .left)
+  items-add-end-2 : walk-items-lts.Need-add-end-2 (items-claims t) (items-at t) walk-items.Post items-inv items-measure
+  items-add-end-2 c =
+      let at-loop = c .before .before .before .before .before .before .before .before .before .before in
+      let asked = at-loop .before .before .before .before .before .before .before .before .before .pre in
+      omega (arith, asked .1 .1 .1 .0, c .before .if3 .left)
 
   items-same-length-2 : walk-items-lts.Need-same-length-2 (items-claims t) (items-at t) walk-items.Post items-inv items-measure
   items-same-length-2 c = search needs
 
   items-returns-4 : walk-items-lts.Need-returns-4 (items-claims t) (items-at t) walk-items.Post items-inv items-measure
   items-returns-4 c =
-      let w = c .before .before .before .before .before .before .before in
-      more-none (item-walked (w .before .before .before .before .loop .inv .1) (w .before .before .before .enter-child .ensures) (w .walk-value .ensures)) (c .before .before .before .skip-blanks2 .ensures) (c .before .before .if3 .left) (c .if4 .taken)
+      let inside = c .before .before in
+      let walked = inside .before .before .before .before .before in
+      let entered = walked .before .before .before in
+      let item = item-walked (entered .before .loop .inv .1) (entered .enter-child .ensures) (walked .walk-value .ensures) in
+      more-none item (inside .before .skip-blanks2 .ensures) (inside .if3 .left) (c .if4 .taken)
 
   items-loop-less : walk-items-lts.Need-loop-less (items-claims t) (items-at t) walk-items.Post items-inv items-measure
   items-loop-less c = search needs
 
   items-loop-again : walk-items-lts.Need-loop-again (items-claims t) (items-at t) walk-items.Post items-inv items-measure
   items-loop-again c =
-      let w = c .before .before .before .before .before .before .before in
-      (search needs, more-again (item-walked (w .before .before .before .before .loop .inv .1) (w .before .before .before .enter-child .ensures) (w .walk-value .ensures)) (c .before .before .before .skip-blanks2 .ensures) (c .before .before .if3 .left) (c .if4 .left))
+      let inside = c .before .before in
+      let walked = inside .before .before .before .before .before in
+      let entered = walked .before .before .before in
+      let item = item-walked (entered .before .loop .inv .1) (entered .enter-child .ensures) (walked .walk-value .ensures) in
+      (search needs, more-again item (inside .before .skip-blanks2 .ensures) (inside .if3 .left) (c .if4 .left))
 
 -- a value
 module _ (t : ℕ) where
@@ -170,13 +188,20 @@ module _ (t : ℕ) where
   value-same-length c = search needs
 
   value-returns-2 : walk-value-lts.Need-returns-2 (value-claims t) (value-at t) walk-value.Post
-  value-returns-2 c = value-scalar (c .before .before .before .before .before .before .before .before .before .before .begin .ensures) (λ e. c .before .before .before .before .before .if2 .taken (c .before .before .before .before .before .before .class .ensures ∙ e)) (c .before .before .before .before .scalar-end .ensures) (c .before .before .finish .ensures)
+  value-returns-2 c =
+      let scanned = c .before .before .before .before in
+      let classed = scanned .before .before in
+      value-scalar (classed .before .before .before .before .begin .ensures) (λ e. scanned .before .if2 .taken (classed .class .ensures ∙ e))
+      (scanned .scalar-end .ensures) (c .before .before .finish .ensures)
 
   value-same-length-2 : walk-value-lts.Need-same-length-2 (value-claims t) (value-at t) walk-value.Post
   value-same-length-2 c = search needs
 
   value-returns-3 : walk-value-lts.Need-returns-3 (value-claims t) (value-at t) walk-value.Post
-  value-returns-3 c = value-too-deep (c .before .before .before .before .before .before .before .before .before .before .before .before .pre .1 .1 .1 .1) (sym (c .before .before .class .ensures) ∙ c .before .if2 .left) (c .if3 .taken)
+  value-returns-3 c =
+      let classed = c .before .before in
+      let asked = classed .before .before .before .before .before .before .before .before .before .before .pre in
+      value-too-deep (asked .1 .1 .1 .1) (sym (classed .class .ensures) ∙ c .before .if2 .left) (c .if3 .taken)
 
   value-raise-requires : walk-value-lts.Need-raise-requires (value-claims t) (value-at t) walk-value.Post
   value-raise-requires c κs = search needs
@@ -189,19 +214,32 @@ module _ (t : ℕ) where
 
   value-walk-items-requires : walk-value-lts.Need-walk-items-requires (value-claims t) (value-at t) walk-value.Post
   value-walk-items-requires c κs =
-      let asked = c .before .before .before .before .before .before .before .before .before .before .before .before .before .before .pre in
-      (omega (arith, asked .0, c .before .before .if3 .left), (asked .1 .0, (asked .1 .1 .0, (asked .1 .1 .1 .0, omega (arith, c .before .before .before .before .before .before .before .before .before .before .if1 .left), omega (arith, asked .1 .1 .1 .2, c .before .before .if3 .left)))))
+      let some-left = c .before .before .if3 .left in
+      let inside = c .before .before .before .before .before .before .before .before .before .before in
+      let asked = inside .before .before .before .before .pre in
+      let bounds = asked .1 .1 .1 in (
+        omega (arith, asked .0, some-left),
+        (asked .1 .0, (asked .1 .1 .0, (bounds .0, omega (arith, inside .if1 .left), omega (arith, bounds .2, some-left)))),
+      )
 
   value-finish-requires-2 : walk-value-lts.Need-finish-requires-2 (value-claims t) (value-at t) walk-value.Post
-  value-finish-requires-2 c κs = omega (arith, c .before .before .before .before .before .before .before .before .before .before .before .before .before .before .before .before .before .before .pre .1 .1 .1 .0, c .before .before .before .walk-items .ensures .within)
+  value-finish-requires-2 c κs =
+      let walked = c .before .before .before in
+      let inside = walked .before .before .before .before .before .before .before .before .before .before .before in
+      let asked = inside .before .before .before .before .pre in
+      omega (arith, asked .1 .1 .1 .0, walked .walk-items .ensures .within)
 
   value-same-length-3 : walk-value-lts.Need-same-length-3 (value-claims t) (value-at t) walk-value.Post
   value-same-length-3 c = search needs
 
   value-returns-4 : walk-value-lts.Need-returns-4 (value-claims t) (value-at t) walk-value.Post
   value-returns-4 c =
-      let w = c .before .before .before .before .before .before .before .before .before .before .before in
-      value-container (w .before .before .before .before .begin .ensures) (sym (w .class .ensures) ∙ c .before .before .before .before .before .before .before .before .before .before .if2 .left) (c .before .before .before .before .before .before .before .before .raise .ensures) (c .before .before .before .before .before .before .walk-items .ensures) (c .before .before .finish2 .ensures)
+      let walked = c .before .before .before .before .before .before in
+      let raised = walked .before .before in
+      let opening = raised .before .before in
+      let classed = opening .before in
+      value-container (classed .before .before .before .before .begin .ensures) (sym (classed .class .ensures) ∙ opening .if2 .left)
+      (raised .raise .ensures) (walked .walk-items .ensures) (c .before .before .finish2 .ensures)
 
 pub +walk-items+walk-value-spec : {M : Type 1} → statement M
 +walk-items+walk-value-spec =
@@ -227,7 +265,7 @@ pub +walk-items+walk-value-spec : {M : Type 1} → statement M
     (items-same-length t)
     (items-returns-3 t)
     (items-shared-slice-read-byte t)
-    (items-add-after t)
+    (items-add-end-2 t)
     (items-same-length-2 t)
     (items-returns-4 t)
     (items-loop-less t)

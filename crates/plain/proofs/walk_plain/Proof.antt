@@ -16,8 +16,11 @@ root-state-requires c κs = search needs
 
 walk-value-requires : tie.Need-walk-value-requires
 walk-value-requires c κs =
-    let start = c .before .before .before .before .before .before .before .before in
-    (c .before .before .before .before .classes .ensures, (start .pre .0, (start .pre .1, c .before .before .before .skip-blanks .ensures .within, omega (arith, c .before .before .root-state .ensures .no-frames))))
+    let rooted = c .before .before in
+    let blanks = rooted .before in
+    let classed = blanks .before in
+    let pre = classed .before .before .before .before .pre in
+    (classed .classes .ensures, (pre .0, (pre .1, blanks .skip-blanks .ensures .within, omega (arith, rooted .root-state .ensures .no-frames))))
 
 same-length : tie.Need-same-length
 same-length c = search needs
@@ -25,7 +28,8 @@ same-length c = search needs
 returns : tie.Need-returns
 returns c =
     let entered = c .before .before .before in
-    walks-root (entered .before .before .before .before .skip-blanks .ensures) (entered .before .before .before .root-state .ensures) (entered .walk-value .ensures)
+    let rooted = entered .before .before .before in
+    walks-root (rooted .before .skip-blanks .ensures) (rooted .root-state .ensures) (entered .walk-value .ensures)
 
 pub walk-plain-spec : {M : Type 1} → statement M
 walk-plain-spec =

@@ -25,10 +25,20 @@ skip-blanks-requires-2 : tie.Need-skip-blanks-requires-2
 skip-blanks-requires-2 c κs = search needs
 
 returns-3 : tie.Need-returns-3
-returns-3 c = enters-as _ true (not-false _ (c .before .before .before .before .if1 .left)) (enters-no-colon _ _ _ (c .before .before .before .before .before .skip-blanks .ensures) _ (c .before .before .string-end .ensures) _ (c .before .skip-blanks2 .ensures) (c .if3 .taken))
+returns-3 c =
+    let quoted = c .before .before in
+    let member = quoted .before .before in
+    enters-as _ true (not-false _ (member .if1 .left))
+    (enters-no-colon _ _ _ (member .before .skip-blanks .ensures) _ (quoted .string-end .ensures) _ (c .before .skip-blanks2 .ensures)
+    (c .if3 .taken))
 
 returns-4 : tie.Need-returns-4
-returns-4 c = enters-as _ true (not-false _ (c .before .before .before .before .before .if1 .left)) (enters-no-name _ _ _ (c .before .before .before .before .before .before .skip-blanks .ensures) _ (c .before .before .before .string-end .ensures) _ (c .before .before .skip-blanks2 .ensures) (c .if4 .taken))
+returns-4 c =
+    let quoted = c .before .before .before in
+    let member = quoted .before .before in
+    enters-as _ true (not-false _ (member .if1 .left))
+    (enters-no-name _ _ _ (member .before .skip-blanks .ensures) _ (quoted .string-end .ensures) _
+    (c .before .before .skip-blanks2 .ensures) (c .if4 .taken))
 
 add-skip-blanks : tie.Need-add-skip-blanks
 add-skip-blanks c = search needs
@@ -40,7 +50,12 @@ sub-t10 : tie.Need-sub-t10
 sub-t10 c = search needs
 
 returns-5 : tie.Need-returns-5
-returns-5 c = enters-as _ true (not-false _ (c .before .before .before .before .before .before .if1 .left)) (enters-member _ _ _ (c .before .before .before .before .before .before .before .skip-blanks .ensures) _ (c .before .before .before .before .string-end .ensures) _ (c .before .before .before .skip-blanks2 .ensures) (c .before .if4 .left) _ (c .skip-blanks3 .ensures))
+returns-5 c =
+    let quoted = c .before .before .before .before in
+    let member = quoted .before .before in
+    enters-as _ true (not-false _ (member .if1 .left))
+    (enters-member _ _ _ (member .before .skip-blanks .ensures) _ (quoted .string-end .ensures) _
+    (c .before .before .before .skip-blanks2 .ensures) (c .before .if4 .left) _ (c .skip-blanks3 .ensures))
 
 pub enter-item-spec : {M : Type 1} → statement M
 enter-item-spec =

@@ -30,7 +30,9 @@ add-result : tie.Need-add-result Inv-loop μ-loop
 add-result c = search needs
 
 returns-2 : tie.Need-returns-2 Inv-loop μ-loop
-returns-2 c = string-quote _ _ _ _ (c .before .before .before .before .loop .inv) (c .before .before .before .string-run .ensures) (c .before .before .if1 .left) (c .if2 .taken)
+returns-2 c =
+    let run = c .before .before .before in
+    string-quote _ _ _ _ (run .before .loop .inv) (run .string-run .ensures) (c .before .before .if1 .left) (c .if2 .taken)
 
 sub-if3 : tie.Need-sub-if3 Inv-loop μ-loop
 sub-if3 c = search needs
@@ -39,16 +41,24 @@ add-result-2 : tie.Need-add-result-2 Inv-loop μ-loop
 add-result-2 c = search needs
 
 returns-3 : tie.Need-returns-3 Inv-loop μ-loop
-returns-3 c = string-short _ _ _ _ (c .before .before .before .before .before .loop .inv) (c .before .before .before .before .string-run .ensures) (c .before .before .before .if1 .left) (c .before .if2 .left) (c .if3 .taken)
+returns-3 c =
+    let run = c .before .before .before .before in
+    string-short _ _ _ _ (run .before .loop .inv) (run .string-run .ensures) (c .before .before .before .if1 .left) (c .before .if2 .left)
+    (c .if3 .taken)
 
 add-i : tie.Need-add-i Inv-loop μ-loop
 add-i c = search needs
 
 loop-less : tie.Need-loop-less Inv-loop μ-loop
-loop-less c = omega (arith, c .before .before .before .before .before .loop .inv .inside, c .before .before .before .before .string-run .ensures .passed .forward)
+loop-less c =
+    let run = c .before .before .before .before in
+    omega (arith, run .before .loop .inv .inside, run .string-run .ensures .passed .forward)
 
 loop-again : tie.Need-loop-again Inv-loop μ-loop
-loop-again c = string-on _ _ _ _ (c .before .before .before .before .before .loop .inv) (c .before .before .before .before .string-run .ensures) (c .before .before .before .if1 .left) (c .before .if2 .left) (c .if3 .left)
+loop-again c =
+    let run = c .before .before .before .before in
+    string-on _ _ _ _ (run .before .loop .inv) (run .string-run .ensures) (c .before .before .before .if1 .left) (c .before .if2 .left)
+    (c .if3 .left)
 
 pub string-end-spec : {M : Type 1} → statement M
 string-end-spec =

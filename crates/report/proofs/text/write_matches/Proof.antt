@@ -24,8 +24,10 @@ write-pairs-requires : tie.Need-write-pairs-requires
 write-pairs-requires c κs =
     let two = c .before .before .before in
     let one = two .before .before .before .before in
-    let start = one .before .before .before .before .before in
-    (start .pre .0, matches-third (start .args .pairs) (start .args .list .now) (start .pre .1) (one .write-word .ensures) (two .write-field .ensures))
+    let start = one .before .before .before .before .before in (
+      start .pre .0,
+      matches-third (start .args .pairs) (start .args .list .now) (start .pre .1) (one .write-word .ensures) (two .write-field .ensures),
+    )
 
 same-length : tie.Need-same-length
 same-length c = search needs
