@@ -6,7 +6,8 @@ ghost use mathlib.Core.Bool.{true, false};
 ghost use Prim.Native.Nat.{ℕ, _+_, _*_, _-_, _/_, _%_, _^_, _<_, _≤_};
 ghost use lib.ListN.{length};
 ghost use Rattle.bits.specs.Bits.{bit};
-ghost use Rattle.blocks.specs.Parts.{oddRun, parity, Swapped, spaced, PackedClasses, Unpacked, Classified, Whole, Padded};
+ghost use Rattle.blocks.specs.Parts.{oddRun, parity, Swapped, spaced, PackedClasses, Unpacked, Classified, Padded};
+ghost use Rattle.blocks.specs.Words.{oddBefore};
 ghost use Rattle.blocks.specs.Sorted.{Sorted};
 
 // Words one to four of a block, and the facts that hold after it.
@@ -26,16 +27,6 @@ struct Classes {
     backslashes: u64,
     opening: u64,
     closing: u64,
-}
-
-// Words one to four of 64 bytes, the backslashes, and the places just behind an odd run of them.
-struct FullWords {
-    quotes: u64,
-    strings: u64,
-    opening: u64,
-    closing: u64,
-    backslashes: u64,
-    escaped: u64,
 }
 
 // The bytes of a full block.
@@ -179,22 +170,23 @@ fn spread(b: bool) -> u64
 }
 
 // Sorts the first 64 bytes: quotes that no odd run escapes, the parity of these, and brackets outside of it.
-fn sort_full(s: &[u8], inside: bool, odd: bool) -> FullWords
-    requires { ⌜ 64 ≤ length (now s) ⌝ }
-    ensures { λ r. ⌜ Whole (now (s .entry)) inside odd (r .quotes) (r .strings) (r .opening) (r .closing) (r .backslashes) (r .escaped) ⌝ }
+// An odd run ends them where the last byte is a backslash that is not escaped.
+fn sort_long(rest: &[u8], inside: bool, odd: bool) -> Words
+    requires { ⌜ 64 ≤ length (now rest) ⌝ }
+    ensures { λ r. ⌜ Sorted (now (rest .entry)) inside odd r ⌝ }
 {
-    let c = classify(s);
+    let c = classify(rest);
     let e = escaped(c.backslashes, odd);
     let quotes = c.quotes & (e ^ ALL);
     let strings = prefix_xor(quotes) ^ spread(inside);
     let outside = strings ^ ALL;
-    FullWords {
+    Words {
         quotes: quotes,
         strings: strings,
         opening: c.opening & outside,
         closing: c.closing & outside,
-        backslashes: c.backslashes,
-        escaped: e,
+        inside: has(strings, LAST),
+        odd: has(c.backslashes & (e ^ ALL), LAST),
     }
 }
 
@@ -220,38 +212,34 @@ fn size_mask(n: usize) -> u64
     (1u64 << n) - 1
 }
 
-// Sorts the block at the front of a part that has a block's bytes.
-// An odd run ends it where its last byte is a backslash that is not escaped.
-fn sort_long(rest: &[u8], inside: bool, odd: bool) -> Words
-    requires { ⌜ 64 ≤ length (now rest) ⌝ }
-    ensures { λ r. ⌜ Sorted (now (rest .entry)) inside odd r ⌝ }
+// Whether an odd run of backslashes ends a part, where `odd` says so of the bytes before it.
+fn odd_after(rest: &[u8], odd: bool) -> bool
+    ensures { λ r. ⌜ r ≡ oddBefore odd (now (rest .entry)) (length (now (rest .entry))) ⌝ }
 {
-    let w = sort_full(rest, inside, odd);
-    Words {
-        quotes: w.quotes,
-        strings: w.strings,
-        opening: w.opening,
-        closing: w.closing,
-        inside: has(w.strings, LAST),
-        odd: has(w.backslashes & (w.escaped ^ ALL), LAST),
+    let mut run = odd;
+    let mut i: usize = 0;
+    while i < rest.len() {
+        run = rest[i] == BACKSLASH && !run;
+        i += 1;
     }
+    run
 }
 
-// Sorts a part shorter than a block: padded, and the words cut to its bytes.
+// Sorts a part shorter than a block: padded, and the words cut to its bytes. The zeros behind it hide the run at its end.
 fn sort_short(rest: &[u8], inside: bool, odd: bool) -> Words
     requires { ⌜ length (now rest) < 64 ⌝ }
     ensures { λ r. ⌜ Sorted (now (rest .entry)) inside odd r ⌝ }
 {
     let pad = padded(rest);
-    let w = sort_full(&pad, inside, odd);
+    let w = sort_long(&pad, inside, odd);
     let mask = size_mask(rest.len());
     Words {
         quotes: w.quotes & mask,
         strings: w.strings & mask,
         opening: w.opening & mask,
         closing: w.closing & mask,
-        inside: has(w.strings, LAST),
-        odd: has(w.escaped, rest.len()),
+        inside: w.inside,
+        odd: odd_after(rest, odd),
     }
 }
 

@@ -1,4 +1,4 @@
--- The padded part is sorted whole; the mask cuts the words to its size, and past its end nothing changes the facts. Assumes nothing.
+-- The padded part is sorted as a full block; the mask cuts the words to its size, and past its end no quote is counted. Assumes nothing.
 use Rattle.blocks.proofs.Sort.{quotes-cut, strings-cut, opening-cut, closing-cut, inside-cut, odd-cut}
 use mathlib.Core.Path.{_∙_}
 use borrow.Author.Needs.{needs}
@@ -8,34 +8,31 @@ use Rattle.blocks.proofs.sort_short.Tie as tie
 padded-requires : tie.Need-padded-requires
 padded-requires c κs = search needs
 
-slice-aggregate-sort-full : tie.Need-slice-aggregate-sort-full
-slice-aggregate-sort-full c = search needs
+slice-aggregate-sort-long : tie.Need-slice-aggregate-sort-long
+slice-aggregate-sort-long c = search needs
 
-sort-full-requires : tie.Need-sort-full-requires
-sort-full-requires c κs = search needs
+sort-long-requires : tie.Need-sort-long-requires
+sort-long-requires c κs = search needs
 
 size-mask-requires : tie.Need-size-mask-requires
 size-mask-requires c κs = search needs
 
-has-requires : tie.Need-has-requires
-has-requires c κs = search needs
-
-has-requires-2 : tie.Need-has-requires-2
-has-requires-2 c κs = search needs
+odd-after-requires : tie.Need-odd-after-requires
+odd-after-requires c κs = search needs
 
 returns : tie.Need-returns
 returns c =
-    let short = c .before .before .before .before .before .before .before .before .before .before .before .pre in
-    let pad = c .before .before .before .before .before .before .before .before .before .padded .ensures in
-    let whole = c .before .before .before .before .before .before .before .sort-full .ensures in
-    let mask = c .before .before .before .before .before .before .size-mask .ensures in
+    let short = c .before .before .before .before .before .before .before .before .before .before .pre in
+    let pad = c .before .before .before .before .before .before .before .before .padded .ensures in
+    let sorted = c .before .before .before .before .before .before .sort-long .ensures in
+    let mask = c .before .before .before .before .before .size-mask .ensures in
     record {
-      quotes-are = quotes-cut _ _ short pad _ _ _ _ _ _ _ _ whole _ mask;
-      strings-are = strings-cut _ _ short pad _ _ _ _ _ _ _ _ whole _ mask;
-      opening-are = opening-cut _ _ short pad _ _ _ _ _ _ _ _ whole _ mask;
-      closing-are = closing-cut _ _ short pad _ _ _ _ _ _ _ _ whole _ mask;
-      inside-is = c .before .has .ensures ∙ inside-cut _ _ short pad _ _ _ _ _ _ _ _ whole _ mask;
-      odd-is = c .has2 .ensures ∙ odd-cut _ _ short pad _ _ _ _ _ _ _ _ whole _ mask;
+      quotes-are = quotes-cut _ _ short pad _ _ _ sorted _ mask;
+      strings-are = strings-cut _ _ short pad _ _ _ sorted _ mask;
+      opening-are = opening-cut _ _ short pad _ _ _ sorted _ mask;
+      closing-are = closing-cut _ _ short pad _ _ _ sorted _ mask;
+      inside-is = inside-cut _ _ short pad _ _ _ sorted;
+      odd-is = c .odd-after .ensures ∙ odd-cut _ _ short pad _ _ _ sorted;
     }
 
 pub sort-short-spec : {M : Type 1} → statement M
@@ -43,9 +40,8 @@ sort-short-spec =
     tie.close
     (tie.spec
     padded-requires
-    slice-aggregate-sort-full
-    sort-full-requires
+    slice-aggregate-sort-long
+    sort-long-requires
     size-mask-requires
-    has-requires
-    has-requires-2
+    odd-after-requires
     returns)
