@@ -169,9 +169,9 @@ fn spread(b: bool) -> u64
     if b { ALL } else { 0 }
 }
 
-// Sorts the first 64 bytes: quotes that no odd run escapes, the parity of these, and brackets outside of it.
+// Sorts the first 64 bytes of a part that has them: quotes that no odd run escapes, the parity of these, and brackets outside of it.
 // An odd run ends them where the last byte is a backslash that is not escaped.
-fn sort_long(rest: &[u8], inside: bool, odd: bool) -> Words
+pub fn sort_full(rest: &[u8], inside: bool, odd: bool) -> Words
     requires { ⌜ 64 ≤ length (now rest) ⌝ }
     ensures { λ r. ⌜ Sorted (now (rest .entry)) inside odd r ⌝ }
 {
@@ -231,7 +231,7 @@ fn sort_short(rest: &[u8], inside: bool, odd: bool) -> Words
     ensures { λ r. ⌜ Sorted (now (rest .entry)) inside odd r ⌝ }
 {
     let pad = padded(rest);
-    let w = sort_long(&pad, inside, odd);
+    let w = sort_full(&pad, inside, odd);
     let mask = size_mask(rest.len());
     Words {
         quotes: w.quotes & mask,
@@ -249,7 +249,7 @@ pub fn sort_block(rest: &[u8], inside: bool, odd: bool) -> Words
     ensures { λ r. ⌜ Sorted (now (rest .entry)) inside odd r ⌝ }
 {
     if rest.len() >= BLOCK {
-        return sort_long(rest, inside, odd);
+        return sort_full(rest, inside, odd);
     }
     sort_short(rest, inside, odd)
 }

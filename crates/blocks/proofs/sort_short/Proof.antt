@@ -8,11 +8,11 @@ use Rattle.blocks.proofs.sort_short.Tie as tie
 padded-requires : tie.Need-padded-requires
 padded-requires c κs = search needs
 
-slice-aggregate-sort-long : tie.Need-slice-aggregate-sort-long
-slice-aggregate-sort-long c = search needs
+slice-aggregate-sort-full : tie.Need-slice-aggregate-sort-full
+slice-aggregate-sort-full c = search needs
 
-sort-long-requires : tie.Need-sort-long-requires
-sort-long-requires c κs = search needs
+sort-full-requires : tie.Need-sort-full-requires
+sort-full-requires c κs = search needs
 
 size-mask-requires : tie.Need-size-mask-requires
 size-mask-requires c κs = search needs
@@ -24,7 +24,7 @@ returns : tie.Need-returns
 returns c =
     let short = c .before .before .before .before .before .before .before .before .before .before .pre in
     let pad = c .before .before .before .before .before .before .before .before .padded .ensures in
-    let sorted = c .before .before .before .before .before .before .sort-long .ensures in
+    let sorted = c .before .before .before .before .before .before .sort-full .ensures in
     let mask = c .before .before .before .before .before .size-mask .ensures in
     record {
       quotes-are = quotes-cut _ _ short pad _ _ _ sorted _ mask;
@@ -40,8 +40,8 @@ sort-short-spec =
     tie.close
     (tie.spec
     padded-requires
-    slice-aggregate-sort-long
-    sort-long-requires
+    slice-aggregate-sort-full
+    sort-full-requires
     size-mask-requires
     odd-after-requires
     returns)

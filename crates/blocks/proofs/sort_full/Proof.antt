@@ -4,8 +4,8 @@ use Rattle.blocks.proofs.Sort.{quotes-full, strings-full, opening-full,
 use mathlib.Core.Path.{_∙_}
 use native.Mathlib.Omega.{arith}
 use borrow.Author.Needs.{needs}
-use Rattle.blocks.proofs.sort_long.Statement.{statement}
-use Rattle.blocks.proofs.sort_long.Tie as tie
+use Rattle.blocks.proofs.sort_full.Statement.{statement}
+use Rattle.blocks.proofs.sort_full.Tie as tie
 
 classify-requires : tie.Need-classify-requires
 classify-requires c κs = search needs
@@ -41,8 +41,8 @@ returns c =
       odd-is = c .has2 .ensures ∙ odd-last _ _ _ _ _ _ _ _ _ _ classes escapes parities fills long;
     }
 
-pub sort-long-spec : {M : Type 1} → statement M
-sort-long-spec =
+pub sort-full-spec : {M : Type 1} → statement M
+sort-full-spec =
     tie.close
     (tie.spec
     classify-requires
