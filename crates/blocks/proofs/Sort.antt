@@ -1,5 +1,5 @@
--- The words of 64 places from the places of the bytes: a quote is real where no odd run stands before it, word two is the parity of the
--- real quotes, and brackets count outside it. They are those of a full block; a mask cuts them to a shorter one. Assumes nothing.
+-- The words of a full block from the places of its bytes: real quotes and strings as they are marked, and brackets outside of strings. A mask
+-- cuts them to a shorter block. Assumes nothing.
 use mathlib.Core.Path.{_≡_, refl, sym, ap, ap₂, _∙_}
 use mathlib.Core.Bool.{Bool, false, not, xor, _&&_}
 use mathlib.Core.List.{List}
@@ -7,17 +7,16 @@ use Prim.Native.Nat.{ℕ, zero, suc, _+_, _-_, _*_, _%_, _^_, _<_, _≤_}
 use native.Mathlib.Nat.{one-mul, lt-of-le-of-lt}
 use native.Mathlib.Numerals.{add-one}
 use native.Mathlib.Omega.{arith}
-use lib.Bits.{bitAnd, bitXor, and-mask, and-le-l, xor-lt}
+use lib.Bits.{bitAnd, bitXor, and-mask, and-le-l}
 use lib.ListN.{length}
 use lib.Pow.{shl-exact}
 use Rattle.bits.specs.Bits.{bit, number}
-use Rattle.bits.specs.Laws.{bit-and, bit-xor, bit-not, number-of, number-is}
+use Rattle.bits.specs.Laws.{bit-and, bit-not, number-of, number-is}
 use Rattle.blocks.specs.Words.{isBackslash, oddBefore, realQuote, oddQuotes, inString, opensAt, closesAt, blockSize, quotesWord, stringsWord, openingWord, closingWord, insideAfter, oddAfter}
 use Rattle.blocks.specs.Laws.{size-full, size-short, inside-full, odd-full, quotes-bit, strings-bit, opening-bit, closing-bit, quote-same, quotes-same, string-same, opens-same, closes-same, oddQuotes-past}
-use Rattle.blocks.specs.Parts.{oddRun, parity, isOpening, isClosing, Classified, Padded}
+use Rattle.blocks.specs.Parts.{oddRun, parity, isOpening, isClosing, Classified, Marked, Padded}
 use Rattle.blocks.specs.Sorted.{Sorted}
 use Rattle.blocks.specs.declared.Words.{Words}
-use Rattle.blocks.proofs.Parity.{parity-from}
 
 -- ---- runs and parities of the bytes
 
@@ -32,65 +31,59 @@ unfolding parity oddQuotes
 parity-is s inside odd f zero h = refl
 parity-is s inside odd f (suc i) h = ap₂ xor (h i (omega arith)) (parity-is s inside odd f i (λ j l. h j (omega arith)))
 
--- ---- 64 bytes
+-- ---- a full block
 
 abbrev all-ones : ℕ
 all-ones = 0xffffffffffffffff
 
-module _ (s : List ℕ) (inside odd : Bool) (q b o c e prefix fill : ℕ) (classes : Classified s q b o c)
-    (escapes : (i : ℕ) → i < 64 → bit i e ≡ oddRun odd (λ j. bit j b) i)
-    (parities : (i : ℕ) → i < 64 → bit i prefix ≡ parity false (λ j. bit j (bitAnd q (bitXor e all-ones))) (i + 1))
-    (fills : (i : ℕ) → i < 64 → bit i fill ≡ inside) where
-  escaped-bit : (i : ℕ) → i < 64 → bit i e ≡ oddBefore odd s i
-  escaped-bit i h = escapes i h ∙ run-is s odd (λ j. bit j b) i (λ j l. classes .backslash-at j (omega arith))
+module _ (s : List ℕ) (inside odd : Bool) (q b o c quotes strings : ℕ) (ends : Bool) (classes : Classified s q b o c)
+    (marked : Marked q b inside odd quotes strings ends) where
+  run-before : (i : ℕ) → i ≤ 64 → oddRun odd (λ j. bit j b) i ≡ oddBefore odd s i
+  run-before i h = run-is s odd (λ j. bit j b) i (λ j l. classes .backslash-at j (omega arith))
 
-  -- the bits of a word outside another
-  without : (w v : ℕ) (f g : ℕ → Bool) → ((i : ℕ) → i < 64 → bit i w ≡ f i) → ((i : ℕ) → i < 64 → bit i v ≡ g i)
-      → (i : ℕ) → i < 64 → bit i (bitAnd w (bitXor v all-ones)) ≡ (f i && not (g i))
-  without w v f g hw hv i h = bit-and i w (bitXor v all-ones)
-      ∙ ap₂ (λ (x y : Bool). x && y) (hw i h) (bit-not 64 i v h ∙ ap not (hv i h))
-
-  quote-bit : (i : ℕ) → i < 64 → bit i (bitAnd q (bitXor e all-ones)) ≡ realQuote odd s i
+  quote-bit : (i : ℕ) → i < 64 → bit i quotes ≡ realQuote odd s i
   unfolding realQuote
-  quote-bit = without q e _ _ (classes .quote-at) escaped-bit
+  quote-bit i h = marked .quotes-at i h ∙ ap₂ (λ (x y : Bool). x && not y) (classes .quote-at i h) (run-before i (omega arith))
 
-  string-bit : (i : ℕ) → i < 64 → bit i (bitXor prefix fill) ≡ inString inside odd s i
+  string-bit : (i : ℕ) → i < 64 → bit i strings ≡ inString inside odd s i
   unfolding inString
   string-bit i h =
-      let f : ℕ → Bool = λ j. bit j (bitAnd q (bitXor e all-ones)) in
-      bit-xor i prefix fill ∙ ap₂ xor (parities i h) (fills i h) ∙ parity-from inside f (i + 1)
-      ∙ parity-is s inside odd f (i + 1) (λ j l. quote-bit j (omega arith)) ∙ ap (oddQuotes inside odd s) (add-one i)
+      marked .strings-at i h
+      ∙ parity-is s inside odd (λ j. bit j quotes) (i + 1) (λ j l. quote-bit j (omega arith))
+      ∙ ap (oddQuotes inside odd s) (add-one i)
 
-  full : 64 ≤ length s → (w : ℕ) (f : ℕ → Bool) → w < 2 ^ 64 → ((i : ℕ) → i < 64 → bit i w ≡ f i) → w ≡ number (blockSize s) f
-  full long w f l h = number-is 64 w f l h ∙ ap (λ (n : ℕ). number n f) (sym (size-full s long))
+  -- the bits of a word outside strings
+  outside-bit : (w : ℕ) (f : ℕ → Bool) → ((i : ℕ) → i < 64 → bit i w ≡ f i)
+      → (i : ℕ) → i < 64 → bit i (bitAnd w (bitXor strings all-ones)) ≡ (f i && not (inString inside odd s i))
+  outside-bit w f h i l = bit-and i w (bitXor strings all-ones)
+      ∙ ap₂ (λ (x y : Bool). x && y) (h i l) (bit-not 64 i strings l ∙ ap not (string-bit i l))
 
   module _ (long : 64 ≤ length s) where
-    pub quotes-full : q < 2 ^ 64 → bitAnd q (bitXor e all-ones) ≡ quotesWord odd s
+    full : (w : ℕ) (f : ℕ → Bool) → w < 2 ^ 64 → ((i : ℕ) → i < 64 → bit i w ≡ f i) → w ≡ number (blockSize s) f
+    full w f l h = number-is 64 w f l h ∙ ap (λ (n : ℕ). number n f) (sym (size-full s long))
+
+    pub quotes-full : quotes < 2 ^ 64 → quotes ≡ quotesWord odd s
     unfolding quotesWord
-    quotes-full l = full long _ (realQuote odd s) (lt-of-le-of-lt (and-le-l q _) l) quote-bit
+    quotes-full l = full quotes (realQuote odd s) l quote-bit
 
-    pub strings-full : prefix < 2 ^ 64 → fill < 2 ^ 64 → bitXor prefix fill ≡ stringsWord inside odd s
+    pub strings-full : strings < 2 ^ 64 → strings ≡ stringsWord inside odd s
     unfolding stringsWord
-    strings-full l m = full long _ (inString inside odd s) (xor-lt 64 prefix fill l m) string-bit
+    strings-full l = full strings (inString inside odd s) l string-bit
 
-    pub opening-full : o < 2 ^ 64 → bitAnd o (bitXor (bitXor prefix fill) all-ones) ≡ openingWord inside odd s
+    pub opening-full : o < 2 ^ 64 → bitAnd o (bitXor strings all-ones) ≡ openingWord inside odd s
     unfolding openingWord opensAt
-    opening-full l = full long _ (opensAt inside odd s) (lt-of-le-of-lt (and-le-l o _) l)
-        (without o (bitXor prefix fill) (isOpening s) (inString inside odd s) (classes .opening-at) string-bit)
+    opening-full l = full _ (opensAt inside odd s) (lt-of-le-of-lt (and-le-l o _) l) (outside-bit o (isOpening s) (classes .opening-at))
 
-    pub closing-full : c < 2 ^ 64 → bitAnd c (bitXor (bitXor prefix fill) all-ones) ≡ closingWord inside odd s
+    pub closing-full : c < 2 ^ 64 → bitAnd c (bitXor strings all-ones) ≡ closingWord inside odd s
     unfolding closingWord closesAt
-    closing-full l = full long _ (closesAt inside odd s) (lt-of-le-of-lt (and-le-l c _) l)
-        (without c (bitXor prefix fill) (isClosing s) (inString inside odd s) (classes .closing-at) string-bit)
+    closing-full l = full _ (closesAt inside odd s) (lt-of-le-of-lt (and-le-l c _) l) (outside-bit c (isClosing s) (classes .closing-at))
 
-    pub inside-last : bit 63 (bitXor prefix fill) ≡ insideAfter inside odd s
+    pub inside-last : bit 63 strings ≡ insideAfter inside odd s
     unfolding inString
     inside-last = string-bit 63 (omega arith) ∙ sym (inside-full s inside odd long)
 
-    -- the last byte is a backslash that is not escaped
-    pub odd-last : bit 63 (bitAnd b (bitXor e all-ones)) ≡ oddAfter odd s
-    unfolding oddBefore
-    odd-last = without b e (isBackslash s) (oddBefore odd s) (classes .backslash-at) escaped-bit 63 (omega arith) ∙ sym (odd-full s inside odd long)
+    pub odd-last : ends ≡ oddAfter odd s
+    odd-last = marked .ends-is ∙ run-before 64 (omega arith) ∙ sym (odd-full s inside odd long)
 
 -- ---- a shorter block
 

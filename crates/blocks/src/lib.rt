@@ -6,7 +6,7 @@ ghost use mathlib.Core.Bool.{true, false};
 ghost use Prim.Native.Nat.{ℕ, _+_, _*_, _-_, _/_, _%_, _^_, _<_, _≤_};
 ghost use lib.ListN.{length};
 ghost use Rattle.bits.specs.Bits.{bit};
-ghost use Rattle.blocks.specs.Parts.{oddRun, parity, Swapped, spaced, PackedClasses, Unpacked, Classified, Padded};
+ghost use Rattle.blocks.specs.Parts.{oddRun, parity, Swapped, spaced, PackedClasses, Unpacked, Classified, Marked, Padded};
 ghost use Rattle.blocks.specs.Words.{oddBefore};
 ghost use Rattle.blocks.specs.Sorted.{Sorted};
 
@@ -27,6 +27,13 @@ struct Classes {
     backslashes: u64,
     opening: u64,
     closing: u64,
+}
+
+// The quotes that are real, the places inside strings, and whether an odd run of backslashes is last.
+struct Marks {
+    quotes: u64,
+    strings: u64,
+    odd: bool,
 }
 
 // The bytes of a full block.
@@ -85,10 +92,14 @@ fn prefix_xor(x: u64) -> u64
 }
 
 // Bit i is on where an odd run of backslashes stands just before place i: the carries of one sum say which runs are odd.
+// Most blocks have no run, and need no sum.
 fn escaped(backslashes: u64, odd: bool) -> u64
     ensures { λ r. ⌜ ((i : ℕ) → i < 64 → bit i r ≡ oddRun odd (λ j. bit j backslashes) i) ⌝ }
 {
     let first = odd as u64;
+    if backslashes | first == 0 {
+        return 0;
+    }
     let own = backslashes & (first ^ ALL);
     let starts = ((own << 1) ^ ALL) & EVEN;
     let sum = std::num::wrapping_add_u64(starts, own);
@@ -169,24 +180,41 @@ fn spread(b: bool) -> u64
     if b { ALL } else { 0 }
 }
 
-// Sorts the first 64 bytes of a part that has them: quotes that no odd run escapes, the parity of these, and brackets outside of it.
-// An odd run ends them where the last byte is a backslash that is not escaped.
+// Takes quotes that no odd run escapes, and the parity of these. Where neither quote nor backslash stands, a string or none goes on.
+fn mark(quotes: u64, backslashes: u64, inside: bool, odd: bool) -> Marks
+    ensures { λ r. ⌜ Marked quotes backslashes inside odd (r .quotes) (r .strings) (r .odd) ⌝ }
+{
+    if quotes | backslashes == 0 {
+        return Marks {
+            quotes: 0,
+            strings: spread(inside),
+            odd: false,
+        };
+    }
+    let e = escaped(backslashes, odd);
+    let real = quotes & (e ^ ALL);
+    Marks {
+        quotes: real,
+        strings: prefix_xor(real) ^ spread(inside),
+        odd: has(backslashes & (e ^ ALL), LAST),
+    }
+}
+
+// Sorts the first 64 bytes of a part that has them: brackets count outside strings.
 pub fn sort_full(rest: &[u8], inside: bool, odd: bool) -> Words
     requires { ⌜ 64 ≤ length (now rest) ⌝ }
     ensures { λ r. ⌜ Sorted (now (rest .entry)) inside odd r ⌝ }
 {
     let c = classify(rest);
-    let e = escaped(c.backslashes, odd);
-    let quotes = c.quotes & (e ^ ALL);
-    let strings = prefix_xor(quotes) ^ spread(inside);
-    let outside = strings ^ ALL;
+    let k = mark(c.quotes, c.backslashes, inside, odd);
+    let outside = k.strings ^ ALL;
     Words {
-        quotes: quotes,
-        strings: strings,
+        quotes: k.quotes,
+        strings: k.strings,
         opening: c.opening & outside,
         closing: c.closing & outside,
-        inside: has(strings, LAST),
-        odd: has(c.backslashes & (e ^ ALL), LAST),
+        inside: has(k.strings, LAST),
+        odd: k.odd,
     }
 }
 
