@@ -1,7 +1,7 @@
 -- The words of a full block from the places of its bytes: real quotes and strings as they are marked, and brackets outside of strings. A mask
 -- cuts them to a shorter block. Assumes nothing.
 use mathlib.Core.Path.{_≡_, refl, sym, ap, ap₂, _∙_}
-use mathlib.Core.Bool.{Bool, false, not, xor, _&&_}
+use mathlib.Core.Bool.{Bool, not, xor, _&&_}
 use mathlib.Core.List.{List}
 use Prim.Native.Nat.{ℕ, zero, suc, _+_, _-_, _*_, _%_, _^_, _<_, _≤_}
 use native.Mathlib.Nat.{one-mul, lt-of-le-of-lt}
