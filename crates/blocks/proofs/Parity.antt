@@ -74,3 +74,9 @@ pub parity-from : (inside : Bool) (f : ℕ → Bool) (i : ℕ) → xor (parity f
 unfolding parity
 parity-from inside f zero = false-xor inside
 parity-from inside f (suc i) = xor-assoc (f i) (parity false f i) inside ∙ ap (xor (f i)) (parity-from inside f i)
+
+-- where f holds nowhere the start stays
+pub parity-none : (inside : Bool) (f : ℕ → Bool) → ((j : ℕ) → f j ≡ false) → (i : ℕ) → parity inside f i ≡ inside
+unfolding parity
+parity-none inside f h zero = refl
+parity-none inside f h (suc i) = ap₂ xor (h i) (parity-none inside f h i) ∙ false-xor inside

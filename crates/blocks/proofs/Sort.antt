@@ -1,21 +1,22 @@
--- The words of 64 places from the places of the bytes: a quote is real where no odd run stands before it, word two is the parity of the
--- real quotes, and brackets count outside it. They are those of a full block; a mask cuts them to a shorter one. Assumes nothing.
+-- The words of a full block from the places of its bytes: real quotes and strings as they are marked, and brackets outside of strings. A mask
+-- cuts them to a shorter block. Assumes nothing.
 use mathlib.Core.Path.{_≡_, refl, sym, ap, ap₂, _∙_}
-use mathlib.Core.Bool.{Bool, false, not, xor, _&&_}
+use mathlib.Core.Bool.{Bool, not, xor, _&&_}
 use mathlib.Core.List.{List}
 use Prim.Native.Nat.{ℕ, zero, suc, _+_, _-_, _*_, _%_, _^_, _<_, _≤_}
-use native.Mathlib.Nat.{one-mul}
+use native.Mathlib.Nat.{one-mul, lt-of-le-of-lt}
 use native.Mathlib.Numerals.{add-one}
 use native.Mathlib.Omega.{arith}
-use lib.Bits.{bitAnd, bitXor, and-mask}
+use lib.Bits.{bitAnd, bitXor, and-mask, and-le-l}
 use lib.ListN.{length}
 use lib.Pow.{shl-exact}
 use Rattle.bits.specs.Bits.{bit, number}
-use Rattle.bits.specs.Laws.{bit-and, bit-xor, bit-not, number-of, number-is}
+use Rattle.bits.specs.Laws.{bit-and, bit-not, number-of, number-is}
 use Rattle.blocks.specs.Words.{isBackslash, oddBefore, realQuote, oddQuotes, inString, opensAt, closesAt, blockSize, quotesWord, stringsWord, openingWord, closingWord, insideAfter, oddAfter}
-use Rattle.blocks.specs.Laws.{size-full, size-short, inside-full, odd-full, odd-same, quote-same, string-same, opens-same, closes-same, oddQuotes-past}
-use Rattle.blocks.specs.Parts.{oddRun, parity, isOpening, isClosing, Classified, Whole, Padded}
-use Rattle.blocks.proofs.Parity.{parity-from}
+use Rattle.blocks.specs.Laws.{size-full, size-short, inside-full, odd-full, quotes-bit, strings-bit, opening-bit, closing-bit, quote-same, quotes-same, string-same, opens-same, closes-same, oddQuotes-past}
+use Rattle.blocks.specs.Parts.{oddRun, parity, isOpening, isClosing, Classified, Marked, Padded}
+use Rattle.blocks.specs.Sorted.{Sorted}
+use Rattle.blocks.specs.declared.Words.{Words}
 
 -- ---- runs and parities of the bytes
 
@@ -30,121 +31,107 @@ unfolding parity oddQuotes
 parity-is s inside odd f zero h = refl
 parity-is s inside odd f (suc i) h = ap₂ xor (h i (omega arith)) (parity-is s inside odd f i (λ j l. h j (omega arith)))
 
--- ---- 64 bytes
+-- ---- a full block
 
 abbrev all-ones : ℕ
 all-ones = 0xffffffffffffffff
 
-module _ (s : List ℕ) (inside odd : Bool) (q b o c e prefix fill : ℕ) (classes : Classified s q b o c)
-    (escapes : (i : ℕ) → i < 64 → bit i e ≡ oddRun odd (λ j. bit j b) i)
-    (parities : (i : ℕ) → i < 64 → bit i prefix ≡ parity false (λ j. bit j (bitAnd q (bitXor e all-ones))) (i + 1))
-    (fills : (i : ℕ) → i < 64 → bit i fill ≡ inside) where
-  escaped-bit : (i : ℕ) → i < 64 → bit i e ≡ oddBefore odd s i
-  escaped-bit i h = escapes i h ∙ run-is s odd (λ j. bit j b) i (λ j l. classes .backslash-at j (omega arith))
+module _ (s : List ℕ) (inside odd : Bool) (q b o c quotes strings : ℕ) (ends : Bool) (classes : Classified s q b o c)
+    (marked : Marked q b inside odd quotes strings ends) where
+  run-before : (i : ℕ) → i ≤ 64 → oddRun odd (λ j. bit j b) i ≡ oddBefore odd s i
+  run-before i h = run-is s odd (λ j. bit j b) i (λ j l. classes .backslash-at j (omega arith))
 
-  -- the bits of a word outside another
-  without : (w v : ℕ) (f g : ℕ → Bool) → ((i : ℕ) → i < 64 → bit i w ≡ f i) → ((i : ℕ) → i < 64 → bit i v ≡ g i)
-      → (i : ℕ) → i < 64 → bit i (bitAnd w (bitXor v all-ones)) ≡ (f i && not (g i))
-  without w v f g hw hv i h = bit-and i w (bitXor v all-ones)
-      ∙ ap₂ (λ (x y : Bool). x && y) (hw i h) (bit-not 64 i v h ∙ ap not (hv i h))
-
-  quote-bit : (i : ℕ) → i < 64 → bit i (bitAnd q (bitXor e all-ones)) ≡ realQuote odd s i
+  quote-bit : (i : ℕ) → i < 64 → bit i quotes ≡ realQuote odd s i
   unfolding realQuote
-  quote-bit = without q e _ _ (classes .quote-at) escaped-bit
+  quote-bit i h = marked .quotes-at i h ∙ ap₂ (λ (x y : Bool). x && not y) (classes .quote-at i h) (run-before i (omega arith))
 
-  string-bit : (i : ℕ) → i < 64 → bit i (bitXor prefix fill) ≡ inString inside odd s i
+  string-bit : (i : ℕ) → i < 64 → bit i strings ≡ inString inside odd s i
   unfolding inString
   string-bit i h =
-      let f : ℕ → Bool = λ j. bit j (bitAnd q (bitXor e all-ones)) in
-      bit-xor i prefix fill ∙ ap₂ xor (parities i h) (fills i h) ∙ parity-from inside f (i + 1)
-      ∙ parity-is s inside odd f (i + 1) (λ j l. quote-bit j (omega arith)) ∙ ap (oddQuotes inside odd s) (add-one i)
+      marked .strings-at i h
+      ∙ parity-is s inside odd (λ j. bit j quotes) (i + 1) (λ j l. quote-bit j (omega arith))
+      ∙ ap (oddQuotes inside odd s) (add-one i)
 
-  pub whole-law : Whole s inside odd (bitAnd q (bitXor e all-ones)) (bitXor prefix fill)
-      (bitAnd o (bitXor (bitXor prefix fill) all-ones)) (bitAnd c (bitXor (bitXor prefix fill) all-ones)) b e
-  unfolding opensAt closesAt
-  whole-law = record {
-    quotes-at = quote-bit;
-    strings-at = string-bit;
-    opening-at = without o (bitXor prefix fill) (isOpening s) (inString inside odd s) (classes .opening-at) string-bit;
-    closing-at = without c (bitXor prefix fill) (isClosing s) (inString inside odd s) (classes .closing-at) string-bit;
-    backslashes-at = classes .backslash-at;
-    escaped-at = escaped-bit;
-  }
+  -- the bits of a word outside strings
+  outside-bit : (w : ℕ) (f : ℕ → Bool) → ((i : ℕ) → i < 64 → bit i w ≡ f i)
+      → (i : ℕ) → i < 64 → bit i (bitAnd w (bitXor strings all-ones)) ≡ (f i && not (inString inside odd s i))
+  outside-bit w f h i l = bit-and i w (bitXor strings all-ones)
+      ∙ ap₂ (λ (x y : Bool). x && y) (h i l) (bit-not 64 i strings l ∙ ap not (string-bit i l))
 
--- ---- a full block
+  module _ (long : 64 ≤ length s) where
+    full : (w : ℕ) (f : ℕ → Bool) → w < 2 ^ 64 → ((i : ℕ) → i < 64 → bit i w ≡ f i) → w ≡ number (blockSize s) f
+    full w f l h = number-is 64 w f l h ∙ ap (λ (n : ℕ). number n f) (sym (size-full s long))
 
-module _ (s : List ℕ) (long : 64 ≤ length s) (inside odd : Bool) (q t o c b e : ℕ) (whole : Whole s inside odd q t o c b e) where
-  full : (w : ℕ) (f : ℕ → Bool) → w < 2 ^ 64 → ((i : ℕ) → i < 64 → bit i w ≡ f i) → w ≡ number (blockSize s) f
-  full w f l h = number-is 64 w f l h ∙ ap (λ (n : ℕ). number n f) (sym (size-full s long))
+    pub quotes-full : quotes < 2 ^ 64 → quotes ≡ quotesWord odd s
+    unfolding quotesWord
+    quotes-full l = full quotes (realQuote odd s) l quote-bit
 
-  pub quotes-full : q < 2 ^ 64 → q ≡ quotesWord odd s
-  unfolding quotesWord
-  quotes-full l = full q (realQuote odd s) l (whole .quotes-at)
+    pub strings-full : strings < 2 ^ 64 → strings ≡ stringsWord inside odd s
+    unfolding stringsWord
+    strings-full l = full strings (inString inside odd s) l string-bit
 
-  pub strings-full : t < 2 ^ 64 → t ≡ stringsWord inside odd s
-  unfolding stringsWord
-  strings-full l = full t (inString inside odd s) l (whole .strings-at)
+    pub opening-full : o < 2 ^ 64 → bitAnd o (bitXor strings all-ones) ≡ openingWord inside odd s
+    unfolding openingWord opensAt
+    opening-full l = full _ (opensAt inside odd s) (lt-of-le-of-lt (and-le-l o _) l) (outside-bit o (isOpening s) (classes .opening-at))
 
-  pub opening-full : o < 2 ^ 64 → o ≡ openingWord inside odd s
-  unfolding openingWord
-  opening-full l = full o (opensAt inside odd s) l (whole .opening-at)
+    pub closing-full : c < 2 ^ 64 → bitAnd c (bitXor strings all-ones) ≡ closingWord inside odd s
+    unfolding closingWord closesAt
+    closing-full l = full _ (closesAt inside odd s) (lt-of-le-of-lt (and-le-l c _) l) (outside-bit c (isClosing s) (classes .closing-at))
 
-  pub closing-full : c < 2 ^ 64 → c ≡ closingWord inside odd s
-  unfolding closingWord
-  closing-full l = full c (closesAt inside odd s) l (whole .closing-at)
+    pub inside-last : bit 63 strings ≡ insideAfter inside odd s
+    unfolding inString
+    inside-last = string-bit 63 (omega arith) ∙ sym (inside-full s inside odd long)
 
-  pub inside-last : bit 63 t ≡ insideAfter inside odd s
-  unfolding inString
-  inside-last = whole .strings-at 63 (omega arith) ∙ sym (inside-full s inside odd long)
-
-  -- the last byte is a backslash that is not escaped
-  pub odd-last : bit 63 (bitAnd b (bitXor e all-ones)) ≡ oddAfter odd s
-  unfolding oddBefore
-  odd-last =
-      bit-and 63 b (bitXor e all-ones)
-      ∙ ap₂ (λ (x y : Bool). x && y) (whole .backslashes-at 63 (omega arith)) (bit-not 64 63 e (omega arith) ∙ ap not (whole .escaped-at 63 (omega arith)))
-      ∙ sym (odd-full s inside odd long)
+    pub odd-last : ends ≡ oddAfter odd s
+    odd-last = marked .ends-is ∙ run-before 64 (omega arith) ∙ sym (odd-full s inside odd long)
 
 -- ---- a shorter block
 
 pub mask-short : (n : ℕ) → n < 64 → 1 * 2 ^ n % 2 ^ 64 ≡ 2 ^ n
 mask-short n h = shl-exact {a = 1} 1 n 64 (omega arith) (omega arith) ∙ one-mul (2 ^ n)
 
-module _ (s d : List ℕ) (short : length s < 64) (pad : Padded s d) (inside odd : Bool) (q t o c b e : ℕ) (whole : Whole d inside odd q t o c b e)
-    (mask : ℕ) (masked : mask ≡ 2 ^ length s - 1) where
+module _ (s d : List ℕ) (short : length s < 64) (pad : Padded s d) (inside odd : Bool) (w : Words) (sorted : Sorted d inside odd w) where
   size : blockSize s ≡ length s
   size = size-short s (omega arith)
 
-  cut : (w : ℕ) (f g : ℕ → Bool) → ((i : ℕ) → i < 64 → bit i w ≡ f i) → ((i : ℕ) → i < 64 → f i ≡ g i) → bitAnd w mask ≡ number (blockSize s) g
-  cut w f g h l =
-      ap (bitAnd w) masked ∙ and-mask w (length s)
-      ∙ number-of (length s) w g (λ i r. h i (omega arith) ∙ l i (omega arith)) ∙ ap (λ (n : ℕ). number n g) (sym size)
-
-  pub quotes-cut : bitAnd q mask ≡ quotesWord odd s
-  unfolding quotesWord
-  quotes-cut = cut q (realQuote odd d) (realQuote odd s) (whole .quotes-at) (quote-same d s 64 (pad .like) inside odd)
-
-  pub strings-cut : bitAnd t mask ≡ stringsWord inside odd s
-  unfolding stringsWord
-  strings-cut = cut t (inString inside odd d) (inString inside odd s) (whole .strings-at) (string-same d s 64 (pad .like) inside odd)
-
-  pub opening-cut : bitAnd o mask ≡ openingWord inside odd s
-  unfolding openingWord
-  opening-cut = cut o (opensAt inside odd d) (opensAt inside odd s) (whole .opening-at) (opens-same d s 64 (pad .like) inside odd)
-
-  pub closing-cut : bitAnd c mask ≡ closingWord inside odd s
-  unfolding closingWord
-  closing-cut = cut c (closesAt inside odd d) (closesAt inside odd s) (whole .closing-at) (closes-same d s 64 (pad .like) inside odd)
+  whole : (i : ℕ) → i < 64 → i < blockSize d
+  whole i h = let k = size-full d (omega (arith, pad .long)) in omega arith
 
   -- past the end no quote is counted
-  pub inside-cut : bit 63 t ≡ insideAfter inside odd s
-  unfolding insideAfter inString
+  pub inside-cut : w .inside ≡ insideAfter inside odd s
+  unfolding insideAfter
   inside-cut =
       let k : 64 ≡ (64 - length s) + length s = omega arith in
-      whole .strings-at 63 (omega arith) ∙ string-same d s 64 (pad .like) inside odd 63 (omega arith)
+      sorted .inside-is ∙ inside-full d inside odd (omega (arith, pad .long)) ∙ quotes-same d s 64 (pad .like) inside odd 64 (omega arith)
       ∙ ap (oddQuotes inside odd s) k ∙ oddQuotes-past s inside odd (length s) (64 - length s) (omega arith)
       ∙ ap (oddQuotes inside odd s) (sym size)
 
-  pub odd-cut : bit (length s) e ≡ oddAfter odd s
+  pub odd-cut : oddBefore odd s (length s) ≡ oddAfter odd s
   unfolding oddAfter
-  odd-cut = whole .escaped-at (length s) short ∙ odd-same d s 64 (pad .like) inside odd (length s) (omega arith) ∙ ap (oddBefore odd s) (sym size)
+  odd-cut = ap (oddBefore odd s) (sym size)
+
+  module _ (mask : ℕ) (masked : mask ≡ 2 ^ length s - 1) where
+    cut : (x : ℕ) (g : ℕ → Bool) → ((i : ℕ) → i < 64 → bit i x ≡ g i) → bitAnd x mask ≡ number (blockSize s) g
+    cut x g h =
+        ap (bitAnd x) masked ∙ and-mask x (length s)
+        ∙ number-of (length s) x g (λ i r. h i (omega arith)) ∙ ap (λ (n : ℕ). number n g) (sym size)
+
+    pub quotes-cut : bitAnd (w .quotes) mask ≡ quotesWord odd s
+    unfolding quotesWord
+    quotes-cut = cut (w .quotes) (realQuote odd s)
+        (λ i h. ap (bit i) (sorted .quotes-are) ∙ quotes-bit d inside odd i (whole i h) ∙ quote-same d s 64 (pad .like) inside odd i h)
+
+    pub strings-cut : bitAnd (w .strings) mask ≡ stringsWord inside odd s
+    unfolding stringsWord
+    strings-cut = cut (w .strings) (inString inside odd s)
+        (λ i h. ap (bit i) (sorted .strings-are) ∙ strings-bit d inside odd i (whole i h) ∙ string-same d s 64 (pad .like) inside odd i h)
+
+    pub opening-cut : bitAnd (w .opening) mask ≡ openingWord inside odd s
+    unfolding openingWord
+    opening-cut = cut (w .opening) (opensAt inside odd s)
+        (λ i h. ap (bit i) (sorted .opening-are) ∙ opening-bit d inside odd i (whole i h) ∙ opens-same d s 64 (pad .like) inside odd i h)
+
+    pub closing-cut : bitAnd (w .closing) mask ≡ closingWord inside odd s
+    unfolding closingWord
+    closing-cut = cut (w .closing) (closesAt inside odd s)
+        (λ i h. ap (bit i) (sorted .closing-are) ∙ closing-bit d inside odd i (whole i h) ∙ closes-same d s 64 (pad .like) inside odd i h)

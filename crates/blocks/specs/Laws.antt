@@ -79,7 +79,7 @@ module _ (s : List ℕ) (inside odd : Bool) (i : ℕ) (h : blockSize s ≤ i) wh
 
 -- ---- the next bracket is the lowest bit that is on
 
-or-parts : (a b : Bool) → (a || b) ≡ false → (a ≡ false) × (b ≡ false)
+pub or-parts : (a b : Bool) → (a || b) ≡ false → (a ≡ false) × (b ≡ false)
 or-parts true b e = (e, cc)
 or-parts false b e = (refl, e)
 

@@ -6,7 +6,7 @@ use Prim.Native.Nat.{ℕ, zero, suc, _+_, _-_, _*_, _%_, _<_}
 use lib.Dec.{eqb, leb}
 use lib.ListN.{length}
 use Rattle.bits.specs.Bits.{bit}
-use Rattle.blocks.specs.Words.{byteAt, isBackslash, oddBefore, realQuote, inString, opensAt, closesAt}
+use Rattle.blocks.specs.Words.{byteAt, isBackslash}
 
 -- an odd run of places at which f holds stands just before place i, where `odd` says so of place 0
 unfoldable pub oddRun : (odd : Bool) → (ℕ → Bool) → ℕ → Bool
@@ -69,14 +69,11 @@ pub record Classified (s : List ℕ) (quotes backslashes opening closing : ℕ) 
   pub opening-at : (i : ℕ) → i < 64 → bit i opening ≡ isOpening s i
   pub closing-at : (i : ℕ) → i < 64 → bit i closing ≡ isClosing s i
 
--- the words of the first 64 places of s, whatever its length
-pub record Whole (s : List ℕ) (inside odd : Bool) (quotes strings opening closing backslashes escaped : ℕ) : Type 0 where
-  pub quotes-at : (i : ℕ) → i < 64 → bit i quotes ≡ realQuote odd s i
-  pub strings-at : (i : ℕ) → i < 64 → bit i strings ≡ inString inside odd s i
-  pub opening-at : (i : ℕ) → i < 64 → bit i opening ≡ opensAt inside odd s i
-  pub closing-at : (i : ℕ) → i < 64 → bit i closing ≡ closesAt inside odd s i
-  pub backslashes-at : (i : ℕ) → i < 64 → bit i backslashes ≡ isBackslash s i
-  pub escaped-at : (i : ℕ) → i < 64 → bit i escaped ≡ oddBefore odd s i
+-- the real ones of the quotes q where b are the backslashes, the places inside strings, and whether an odd run is last
+pub record Marked (q b : ℕ) (inside odd : Bool) (quotes strings : ℕ) (ends : Bool) : Type 0 where
+  pub quotes-at : (i : ℕ) → i < 64 → bit i quotes ≡ (bit i q && not (oddRun odd (λ j. bit j b) i))
+  pub strings-at : (i : ℕ) → i < 64 → bit i strings ≡ parity inside (λ j. bit j quotes) (i + 1)
+  pub ends-is : ends ≡ oddRun odd (λ j. bit j b) 64
 
 -- d has 64 bytes: those of s and zeros behind them
 pub record Padded (s d : List ℕ) : Type 0 where

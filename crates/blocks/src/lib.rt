@@ -6,7 +6,8 @@ ghost use mathlib.Core.Bool.{true, false};
 ghost use Prim.Native.Nat.{ℕ, _+_, _*_, _-_, _/_, _%_, _^_, _<_, _≤_};
 ghost use lib.ListN.{length};
 ghost use Rattle.bits.specs.Bits.{bit};
-ghost use Rattle.blocks.specs.Parts.{oddRun, parity, Swapped, spaced, PackedClasses, Unpacked, Classified, Whole, Padded};
+ghost use Rattle.blocks.specs.Parts.{oddRun, parity, Swapped, spaced, PackedClasses, Unpacked, Classified, Marked, Padded};
+ghost use Rattle.blocks.specs.Words.{oddBefore};
 ghost use Rattle.blocks.specs.Sorted.{Sorted};
 
 // Words one to four of a block, and the facts that hold after it.
@@ -28,14 +29,11 @@ struct Classes {
     closing: u64,
 }
 
-// Words one to four of 64 bytes, the backslashes, and the places just behind an odd run of them.
-struct FullWords {
+// The quotes that are real, the places inside strings, and whether an odd run of backslashes is last.
+struct Marks {
     quotes: u64,
     strings: u64,
-    opening: u64,
-    closing: u64,
-    backslashes: u64,
-    escaped: u64,
+    odd: bool,
 }
 
 // The bytes of a full block.
@@ -94,10 +92,14 @@ fn prefix_xor(x: u64) -> u64
 }
 
 // Bit i is on where an odd run of backslashes stands just before place i: the carries of one sum say which runs are odd.
+// Most blocks have no run, and need no sum.
 fn escaped(backslashes: u64, odd: bool) -> u64
     ensures { λ r. ⌜ ((i : ℕ) → i < 64 → bit i r ≡ oddRun odd (λ j. bit j backslashes) i) ⌝ }
 {
     let first = odd as u64;
+    if backslashes | first == 0 {
+        return 0;
+    }
     let own = backslashes & (first ^ ALL);
     let starts = ((own << 1) ^ ALL) & EVEN;
     let sum = std::num::wrapping_add_u64(starts, own);
@@ -178,23 +180,41 @@ fn spread(b: bool) -> u64
     if b { ALL } else { 0 }
 }
 
-// Sorts the first 64 bytes: quotes that no odd run escapes, the parity of these, and brackets outside of it.
-fn sort_full(s: &[u8], inside: bool, odd: bool) -> FullWords
-    requires { ⌜ 64 ≤ length (now s) ⌝ }
-    ensures { λ r. ⌜ Whole (now (s .entry)) inside odd (r .quotes) (r .strings) (r .opening) (r .closing) (r .backslashes) (r .escaped) ⌝ }
+// Takes quotes that no odd run escapes, and the parity of these. Where neither quote nor backslash stands, a string or none goes on.
+fn mark(quotes: u64, backslashes: u64, inside: bool, odd: bool) -> Marks
+    ensures { λ r. ⌜ Marked quotes backslashes inside odd (r .quotes) (r .strings) (r .odd) ⌝ }
 {
-    let c = classify(s);
-    let e = escaped(c.backslashes, odd);
-    let quotes = c.quotes & (e ^ ALL);
-    let strings = prefix_xor(quotes) ^ spread(inside);
-    let outside = strings ^ ALL;
-    FullWords {
-        quotes: quotes,
-        strings: strings,
+    if quotes | backslashes == 0 {
+        return Marks {
+            quotes: 0,
+            strings: spread(inside),
+            odd: false,
+        };
+    }
+    let e = escaped(backslashes, odd);
+    let real = quotes & (e ^ ALL);
+    Marks {
+        quotes: real,
+        strings: prefix_xor(real) ^ spread(inside),
+        odd: has(backslashes & (e ^ ALL), LAST),
+    }
+}
+
+// Sorts the first 64 bytes of a part that has them: brackets count outside strings.
+pub fn sort_full(rest: &[u8], inside: bool, odd: bool) -> Words
+    requires { ⌜ 64 ≤ length (now rest) ⌝ }
+    ensures { λ r. ⌜ Sorted (now (rest .entry)) inside odd r ⌝ }
+{
+    let c = classify(rest);
+    let k = mark(c.quotes, c.backslashes, inside, odd);
+    let outside = k.strings ^ ALL;
+    Words {
+        quotes: k.quotes,
+        strings: k.strings,
         opening: c.opening & outside,
         closing: c.closing & outside,
-        backslashes: c.backslashes,
-        escaped: e,
+        inside: has(k.strings, LAST),
+        odd: k.odd,
     }
 }
 
@@ -220,24 +240,20 @@ fn size_mask(n: usize) -> u64
     (1u64 << n) - 1
 }
 
-// Sorts the block at the front of a part that has a block's bytes.
-// An odd run ends it where its last byte is a backslash that is not escaped.
-fn sort_long(rest: &[u8], inside: bool, odd: bool) -> Words
-    requires { ⌜ 64 ≤ length (now rest) ⌝ }
-    ensures { λ r. ⌜ Sorted (now (rest .entry)) inside odd r ⌝ }
+// Whether an odd run of backslashes ends a part, where `odd` says so of the bytes before it.
+fn odd_after(rest: &[u8], odd: bool) -> bool
+    ensures { λ r. ⌜ r ≡ oddBefore odd (now (rest .entry)) (length (now (rest .entry))) ⌝ }
 {
-    let w = sort_full(rest, inside, odd);
-    Words {
-        quotes: w.quotes,
-        strings: w.strings,
-        opening: w.opening,
-        closing: w.closing,
-        inside: has(w.strings, LAST),
-        odd: has(w.backslashes & (w.escaped ^ ALL), LAST),
+    let mut run = odd;
+    let mut i: usize = 0;
+    while i < rest.len() {
+        run = rest[i] == BACKSLASH && !run;
+        i += 1;
     }
+    run
 }
 
-// Sorts a part shorter than a block: padded, and the words cut to its bytes.
+// Sorts a part shorter than a block: padded, and the words cut to its bytes. The zeros behind it hide the run at its end.
 fn sort_short(rest: &[u8], inside: bool, odd: bool) -> Words
     requires { ⌜ length (now rest) < 64 ⌝ }
     ensures { λ r. ⌜ Sorted (now (rest .entry)) inside odd r ⌝ }
@@ -250,8 +266,8 @@ fn sort_short(rest: &[u8], inside: bool, odd: bool) -> Words
         strings: w.strings & mask,
         opening: w.opening & mask,
         closing: w.closing & mask,
-        inside: has(w.strings, LAST),
-        odd: has(w.escaped, rest.len()),
+        inside: w.inside,
+        odd: odd_after(rest, odd),
     }
 }
 
@@ -261,7 +277,7 @@ pub fn sort_block(rest: &[u8], inside: bool, odd: bool) -> Words
     ensures { λ r. ⌜ Sorted (now (rest .entry)) inside odd r ⌝ }
 {
     if rest.len() >= BLOCK {
-        return sort_long(rest, inside, odd);
+        return sort_full(rest, inside, odd);
     }
     sort_short(rest, inside, odd)
 }

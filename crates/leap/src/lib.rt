@@ -1,13 +1,16 @@
 // The place after a container: byte by byte at first, then block by block.
 use bits::has;
 use bits::lowest;
+use blocks::Words;
 use blocks::sort_block;
+use blocks::sort_full;
 use encoding::class;
 ghost use mathlib.Core.Path.{_≡_};
 ghost use mathlib.Core.Bool.{true};
 ghost use Prim.Native.Nat.{_≤_, _<_};
 ghost use lib.Count.{ones};
 ghost use Rattle.bits.specs.Bits.{bit};
+ghost use Rattle.blocks.specs.Sorted.{Sorted};
 ghost use Rattle.encoding.specs.ClassTable.{ClassTable};
 ghost use Rattle.leap.specs.Brackets.{Leaves};
 ghost use Rattle.leap.specs.Passing.{After, Cleared, Apart, Finds, Leads};
@@ -141,6 +144,16 @@ fn pass_block(opening: u64, closing: u64, depth: usize) -> Found
     find_closing(opening, closing, depth)
 }
 
+// The words of the block at the front of a part. Nearly every block is full, and the sorter takes such a one straight away.
+fn next_words(rest: &[u8], inside: bool, odd: bool) -> Words
+    ensures { λ r. ⌜ Sorted (now (rest .entry)) inside odd r ⌝ }
+{
+    if rest.len() >= BLOCK {
+        return sort_full(rest, inside, odd);
+    }
+    sort_block(rest, inside, odd)
+}
+
 // The place after the bracket that closes the last open one, from `at` on block by block; the length where none does.
 fn leave_blocks(record: &[u8], at: usize, start: Standing) -> usize
     requires { do ⌜ (← ⟦record.len()⟧) ≤ 16777216 ⌝ }
@@ -152,7 +165,7 @@ fn leave_blocks(record: &[u8], at: usize, start: Standing) -> usize
     let mut odd = start.odd;
     let mut depth = start.depth;
     while i < record.len() {
-        let w = sort_block(&record[i..], inside, odd);
+        let w = next_words(&record[i..], inside, odd);
         let found = pass_block(w.opening, w.closing, depth);
         let place = found.place;
         if place < BLOCK {

@@ -1,5 +1,7 @@
--- The words of the bytes' places, joined by the words of escaped places and of parities. Assumes nothing.
-use Rattle.blocks.proofs.Sort.{whole-law}
+-- The words of the bytes' places as they are marked are those of the block, and the last place says the two facts. Assumes nothing.
+use Rattle.blocks.proofs.Sort.{quotes-full, strings-full, opening-full, closing-full, inside-last, odd-last}
+use mathlib.Core.Path.{_∙_}
+use native.Mathlib.Omega.{arith}
 use borrow.Author.Needs.{needs}
 use Rattle.blocks.proofs.sort_full.Statement.{statement}
 use Rattle.blocks.proofs.sort_full.Tie as tie
@@ -7,19 +9,25 @@ use Rattle.blocks.proofs.sort_full.Tie as tie
 classify-requires : tie.Need-classify-requires
 classify-requires c κs = search needs
 
-escaped-requires : tie.Need-escaped-requires
-escaped-requires c κs = search needs
+mark-requires : tie.Need-mark-requires
+mark-requires c κs = search needs
 
-prefix-xor-requires : tie.Need-prefix-xor-requires
-prefix-xor-requires c κs = search needs
-
-spread-requires : tie.Need-spread-requires
-spread-requires c κs = search needs
+has-requires : tie.Need-has-requires
+has-requires c κs = search needs
 
 returns : tie.Need-returns
-returns c = whole-law _ _ _ _ _ _ _ _ _ _ (c .before .before .before .before .before .before .classify .ensures) (c .before .before .before .before .before .escaped .ensures) (c .before .before .before .prefix-xor .ensures) (c .before .before .spread .ensures)
+returns c =
+    let long = c .before .before .before .before .before .before .before .pre in
+    let classes = c .before .before .before .before .before .classify .ensures in
+    let marked = c .before .before .before .before .mark .ensures in
+    record {
+      quotes-are = quotes-full _ _ _ _ _ _ _ _ _ _ classes marked long (omega arith);
+      strings-are = strings-full _ _ _ _ _ _ _ _ _ _ classes marked long (omega arith);
+      opening-are = opening-full _ _ _ _ _ _ _ _ _ _ classes marked long (omega arith);
+      closing-are = closing-full _ _ _ _ _ _ _ _ _ _ classes marked long (omega arith);
+      inside-is = c .has .ensures ∙ inside-last _ _ _ _ _ _ _ _ _ _ classes marked long;
+      odd-is = odd-last _ _ _ _ _ _ _ _ _ _ classes marked long;
+    }
 
 pub sort-full-spec : {M : Type 1} → statement M
-sort-full-spec =
-    tie.close
-    (tie.spec classify-requires escaped-requires prefix-xor-requires spread-requires returns)
+sort-full-spec = tie.close (tie.spec classify-requires mark-requires has-requires returns)

@@ -1,4 +1,4 @@
--- The padded part is sorted whole; the mask cuts the words to its size, and past its end nothing changes the facts. Assumes nothing.
+-- The padded part is sorted as a full block; the mask cuts the words to its size, and past its end no quote is counted. Assumes nothing.
 use Rattle.blocks.proofs.Sort.{quotes-cut, strings-cut, opening-cut, closing-cut, inside-cut, odd-cut}
 use mathlib.Core.Path.{_∙_}
 use borrow.Author.Needs.{needs}
@@ -17,25 +17,22 @@ sort-full-requires c κs = search needs
 size-mask-requires : tie.Need-size-mask-requires
 size-mask-requires c κs = search needs
 
-has-requires : tie.Need-has-requires
-has-requires c κs = search needs
-
-has-requires-2 : tie.Need-has-requires-2
-has-requires-2 c κs = search needs
+odd-after-requires : tie.Need-odd-after-requires
+odd-after-requires c κs = search needs
 
 returns : tie.Need-returns
 returns c =
-    let short = c .before .before .before .before .before .before .before .before .before .before .before .pre in
-    let pad = c .before .before .before .before .before .before .before .before .before .padded .ensures in
-    let whole = c .before .before .before .before .before .before .before .sort-full .ensures in
-    let mask = c .before .before .before .before .before .before .size-mask .ensures in
+    let short = c .before .before .before .before .before .before .before .before .before .before .pre in
+    let pad = c .before .before .before .before .before .before .before .before .padded .ensures in
+    let sorted = c .before .before .before .before .before .before .sort-full .ensures in
+    let mask = c .before .before .before .before .before .size-mask .ensures in
     record {
-      quotes-are = quotes-cut _ _ short pad _ _ _ _ _ _ _ _ whole _ mask;
-      strings-are = strings-cut _ _ short pad _ _ _ _ _ _ _ _ whole _ mask;
-      opening-are = opening-cut _ _ short pad _ _ _ _ _ _ _ _ whole _ mask;
-      closing-are = closing-cut _ _ short pad _ _ _ _ _ _ _ _ whole _ mask;
-      inside-is = c .before .has .ensures ∙ inside-cut _ _ short pad _ _ _ _ _ _ _ _ whole _ mask;
-      odd-is = c .has2 .ensures ∙ odd-cut _ _ short pad _ _ _ _ _ _ _ _ whole _ mask;
+      quotes-are = quotes-cut _ _ short pad _ _ _ sorted _ mask;
+      strings-are = strings-cut _ _ short pad _ _ _ sorted _ mask;
+      opening-are = opening-cut _ _ short pad _ _ _ sorted _ mask;
+      closing-are = closing-cut _ _ short pad _ _ _ sorted _ mask;
+      inside-is = inside-cut _ _ short pad _ _ _ sorted;
+      odd-is = c .odd-after .ensures ∙ odd-cut _ _ short pad _ _ _ sorted;
     }
 
 pub sort-short-spec : {M : Type 1} → statement M
@@ -46,6 +43,5 @@ sort-short-spec =
     slice-aggregate-sort-full
     sort-full-requires
     size-mask-requires
-    has-requires
-    has-requires-2
+    odd-after-requires
     returns)

@@ -17,23 +17,23 @@ abbrev μ-loop : tie.MeasureT-loop
 loop-holds : tie.Need-loop-holds Inv-loop μ-loop
 loop-holds c = tracked-start (c .before .pre .1 .0)
 
-sub-sort-block : tie.Need-sub-sort-block Inv-loop μ-loop
-sub-sort-block c = search needs
+sub-next-words : tie.Need-sub-next-words Inv-loop μ-loop
+sub-next-words c = search needs
 
-part-sort-block-start : tie.Need-part-sort-block-start Inv-loop μ-loop
-part-sort-block-start c = search needs
+part-next-words-start : tie.Need-part-next-words-start Inv-loop μ-loop
+part-next-words-start c = search needs
 
-part-sort-block-end : tie.Need-part-sort-block-end Inv-loop μ-loop
-part-sort-block-end c = search needs
+part-next-words-end : tie.Need-part-next-words-end Inv-loop μ-loop
+part-next-words-end c = search needs
 
-sort-block-requires : tie.Need-sort-block-requires Inv-loop μ-loop
-sort-block-requires c κs = search needs
+next-words-requires : tie.Need-next-words-requires Inv-loop μ-loop
+next-words-requires c κs = search needs
 
 pass-block-requires : tie.Need-pass-block-requires Inv-loop μ-loop
 pass-block-requires c κs =
     let v = c .before .before .before .loop .inv in
     let start = c .before .before .before .before .before in
-    ((v .some, omega (arith, v .few, start .pre .1 .1)), apart v (c .sort-block .ensures))
+    ((v .some, omega (arith, v .few, start .pre .1 .1)), apart v (c .next-words .ensures))
 
 add-result : tie.Need-add-result Inv-loop μ-loop
 add-result c = search needs
@@ -44,7 +44,7 @@ add-result-2 c = search needs
 returns : tie.Need-returns Inv-loop μ-loop
 returns c =
     let t = c .before .before .before .before in
-    block-found (t .before .loop .inv) (c .before .before .sort-block .ensures) (c .before .pass-block .ensures) (t .loop-test .taken) (c .if1 .taken)
+    block-found (t .before .loop .inv) (c .before .before .next-words .ensures) (c .before .pass-block .ensures) (t .loop-test .taken) (c .if1 .taken)
 
 sub-if2 : tie.Need-sub-if2 Inv-loop μ-loop
 sub-if2 c = search needs
@@ -53,7 +53,7 @@ returns-2 : tie.Need-returns-2 Inv-loop μ-loop
 returns-2 c =
     let f = c .before .before in
     let t = f .before .before .before in
-    block-last (t .before .loop .inv) (f .before .sort-block .ensures) (f .pass-block .ensures) (t .loop-test .taken) (c .before .if1 .left) (c .if2 .taken)
+    block-last (t .before .loop .inv) (f .before .next-words .ensures) (f .pass-block .ensures) (t .loop-test .taken) (c .before .if1 .left) (c .if2 .taken)
 
 add-i : tie.Need-add-i Inv-loop μ-loop
 add-i c = search needs
@@ -64,7 +64,7 @@ loop-less c = search needs
 loop-again : tie.Need-loop-again Inv-loop μ-loop
 loop-again c =
     let f = c .before .before in
-    block-next (f .before .before .before .before .loop .inv) (f .before .sort-block .ensures) (f .pass-block .ensures) (c .before .if1 .left) (c .if2 .left)
+    block-next (f .before .before .before .before .loop .inv) (f .before .next-words .ensures) (f .pass-block .ensures) (c .before .if1 .left) (c .if2 .left)
 
 returns-3 : tie.Need-returns-3 Inv-loop μ-loop
 returns-3 c = tracked-out (c .before .loop .inv) (c .loop-test .left)
@@ -76,10 +76,10 @@ leave-blocks-spec =
     Inv-loop
     μ-loop
     loop-holds
-    sub-sort-block
-    part-sort-block-start
-    part-sort-block-end
-    sort-block-requires
+    sub-next-words
+    part-next-words-start
+    part-next-words-end
+    next-words-requires
     pass-block-requires
     add-result
     add-result-2
