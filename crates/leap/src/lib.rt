@@ -17,6 +17,9 @@ ghost use Rattle.leap.specs.Passing.{After, Cleared, Apart, Finds, Leads
 
 const BLOCK: usize = 64;
 
+// The bytes of eight blocks.
+const AHEAD: usize = 512;
+
 // How many bytes are passed one by one before the first block is sorted.
 const HEAD: usize = 16;
 
@@ -144,14 +147,31 @@ fn pass_block(opening: u64, closing: u64, depth: usize) -> Found
     find_closing(opening, closing, depth)
 }
 
-// The words of the block at the front of a part. Nearly every block is full, and the sorter takes such a one straight away.
-fn next_words(rest: &[u8], inside: bool, odd: bool) -> Words
+// Looks at one byte in each of eight blocks, eight blocks before their turn, so that they are at hand by then: whether all are 0, as they
+// never are in a JSON text. A shorter part is not looked at.
+fn zeros_ahead(rest: &[u8]) -> bool {
+    if rest.len() < AHEAD + AHEAD {
+        return false;
+    }
+    let near = rest[512] | rest[576] | rest[640] | rest[704];
+    let far = rest[768] | rest[832] | rest[896] | rest[960];
+    near | far == 0
+}
+
+// The words of the block at the front of a part. The sorter takes a full block straight away, but for one with zeros ahead: some use has
+// to be made of that look, or the compiler leaves it out.
+fn next_words(rest: &[u8], look: bool, inside: bool, odd: bool) -> Words
     ensures { λ r. ⌜ Sorted (now (rest .entry)) inside odd r ⌝ }
 {
-    if rest.len() >= BLOCK {
-        return sort_full(rest, inside, odd);
+    if rest.len() < BLOCK {
+        return sort_block(rest, inside, odd);
     }
-    sort_block(rest, inside, odd)
+    if look {
+        if zeros_ahead(rest) {
+            return sort_block(rest, inside, odd);
+        }
+    }
+    sort_full(rest, inside, odd)
 }
 
 // The place after the bracket that closes the last open one, from `at` on block by block; the length where none does.
@@ -165,7 +185,8 @@ fn leave_blocks(record: &[u8], at: usize, start: Standing) -> usize
     let mut odd = start.odd;
     let mut depth = start.depth;
     while i < record.len() {
-        let w = next_words(&record[i..], inside, odd);
+        let look = (i - at) % AHEAD == 0;
+        let w = next_words(&record[i..], look, inside, odd);
         let found = pass_block(w.opening, w.closing, depth);
         let place = found.place;
         if place < BLOCK {

@@ -17,6 +17,9 @@ abbrev μ-loop : tie.MeasureT-loop
 loop-holds : tie.Need-loop-holds Inv-loop μ-loop
 loop-holds c = tracked-start (c .before .pre .1 .0)
 
+sub-look : tie.Need-sub-look Inv-loop μ-loop
+sub-look c = search needs
+
 sub-next-words : tie.Need-sub-next-words Inv-loop μ-loop
 sub-next-words c = search needs
 
@@ -76,6 +79,7 @@ leave-blocks-spec =
     Inv-loop
     μ-loop
     loop-holds
+    sub-look
     sub-next-words
     part-next-words-start
     part-next-words-end
