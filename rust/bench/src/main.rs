@@ -22,7 +22,9 @@ const EFFORT: Effort = Effort { milliseconds: 200, batch: 1 };
 /// The same on the record of 1 KB.
 const SHORT_EFFORT: Effort = Effort { milliseconds: 30, batch: 200 };
 const SHORT: usize = 1_000;
-const ROUNDS: u32 = 3;
+const ROUNDS: u32 = 12;
+/// An engine that takes longer for a job than this, in nanoseconds, is measured in every fourth round.
+const LONG: f64 = 1e8;
 
 struct Options {
     size: usize,
@@ -94,8 +96,10 @@ fn records(size: usize, folder: &Path) -> Result<Vec<Record>, String> {
     Ok(records)
 }
 
-/// One round of one job on every engine that has not failed on it; each keeps its best time.
+/// One round of one job on every engine that has not failed on it; each keeps its best time. In every
+/// fourth round, the first one too, those that take long have their turn.
 fn round(
+    number: u32,
     measured: &mut Measured,
     engines: &[Engine],
     record: &Record,
@@ -104,6 +108,9 @@ fn round(
 ) -> Result<(), String> {
     for (engine, time) in engines.iter().zip(&mut measured.times) {
         let Ok(best) = time else { continue };
+        if *best > LONG && number % 4 != 0 {
+            continue;
+        }
         match engine.count(measured.job, &record.bytes, &record.file, effort, list) {
             Err(reason) if engine.is_library() => return Err(reason),
             Err(reason) => *time = Err(reason),
@@ -140,8 +147,8 @@ fn measure(
         let longer = refused_at_its_end(record)?;
         let mut of_record =
             Parts { record: record.name, check: f64::INFINITY, find: f64::INFINITY };
-        for _ in 0..rounds {
-            round(&mut measured, engines, record, effort, &mut list)?;
+        for number in 0..rounds {
+            round(number, &mut measured, engines, record, effort, &mut list)?;
             if job.steps.is_empty() {
                 parts_round(&mut of_record, &record.bytes, &longer);
             }
