@@ -85,7 +85,7 @@ module _ (b : ℕ → Bool) (o : Bool) where
 
 -- ---- the words of the code
 
-abbrev all-ones : ℕ
+abbrev pub all-ones : ℕ
 all-ones = 0xffffffffffffffff
 
 abbrev evens : ℕ

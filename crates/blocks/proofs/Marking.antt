@@ -9,10 +9,8 @@ use Rattle.bits.specs.Bits.{bit}
 use Rattle.bits.specs.Laws.{bit-and, bit-or, bit-xor, bit-not, bit-zero}
 use Rattle.blocks.specs.Laws.{or-parts}
 use Rattle.blocks.specs.Parts.{oddRun, parity, Marked}
+use Rattle.blocks.proofs.Escape.{all-ones}
 use Rattle.blocks.proofs.Parity.{parity-from, parity-none}
-
-abbrev all-ones : ℕ
-all-ones = 0xffffffffffffffff
 
 module _ (q b : ℕ) (inside odd : Bool) (e prefix fill : ℕ)
     (escapes : (i : ℕ) → i < 64 → bit i e ≡ oddRun odd (λ j. bit j b) i)

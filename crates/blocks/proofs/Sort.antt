@@ -17,6 +17,7 @@ use Rattle.blocks.specs.Laws.{size-full, size-short, inside-full, odd-fu
 use Rattle.blocks.specs.Parts.{oddRun, parity, isOpening, isClosing, Classified, Marked, Padded}
 use Rattle.blocks.specs.Sorted.{Sorted}
 use Rattle.blocks.specs.declared.Words.{Words}
+use Rattle.blocks.proofs.Escape.{all-ones}
 
 -- ---- runs and parities of the bytes
 
@@ -32,9 +33,6 @@ parity-is s inside odd f zero h = refl
 parity-is s inside odd f (suc i) h = ap₂ xor (h i (omega arith)) (parity-is s inside odd f i (λ j l. h j (omega arith)))
 
 -- ---- a full block
-
-abbrev all-ones : ℕ
-all-ones = 0xffffffffffffffff
 
 module _ (s : List ℕ) (inside odd : Bool) (q b o c quotes strings : ℕ) (ends : Bool) (classes : Classified s q b o c)
     (marked : Marked q b inside odd quotes strings ends) where

@@ -6,7 +6,7 @@ use native.Mathlib.Omega.{arith}
 use lib.Dec.{T, ltb, leb, ltb→lt, leb→le}
 use lib.Bits.{bitAnd, bitOr, bitXor, and-lt, or-lt, xor-lt}
 use Rattle.bits.specs.Truth.{and-left, and-right}
-use Rattle.bits.specs.Word.{word, word-same, difference, difference-byte, difference-kept, word-less, word-and, word-or, word-xor}
+use Rattle.bits.specs.Word.{word, difference, difference-byte, difference-kept, word-less, word-and, word-or, word-xor}
 
 pub data Op : Type 0 where
   and or xor minus : Op

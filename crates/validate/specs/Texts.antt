@@ -3,18 +3,17 @@ use mathlib.Core.Path.{_≡_, refl, ap}
 use mathlib.Core.List.{List, [], _∷_}
 use mathlib.Core.Bool.{Bool, true, false}
 use mathlib.Core.Option.{none}
-use Prim.Native.Nat.{ℕ, zero, suc, _+_, _≤_, _<_}
+use Prim.Native.Nat.{ℕ, zero, suc, _+_, _<_}
 use native.Mathlib.Omega.{arith}
 use lib.ListN.{length, getD}
 use Rattle.swar.specs.Kinds.{blank}
-use Rattle.swar.specs.Run.{Run}
 use Rattle.json.specs.Grammar.{object}
 use Rattle.json.specs.Room.{Room, endless}
-use Rattle.json.specs.Machine.{Ctl, item, colon, after, inString, closed, valueDue, Stack, at, one, step}
+use Rattle.json.specs.Machine.{item, colon, after, inString, closed, valueDue, Stack, at, one, step}
 use Rattle.json.specs.Steps.{past, nowhere, step-by}
 use Rattle.json.specs.Led.{Led, led-here, led-go, led-die, led-end, led-on, led-dead}
 use Rattle.validate.specs.Among.{never, other, no-more, AmongAt, byte, nothing, missed, among-within, among-byte}
-use Rattle.validate.specs.Blanks.{at-colon, led-blanks, past-blanks}
+use Rattle.validate.specs.Blanks.{past-blanks}
 use Rattle.validate.specs.Turns.{dueOf, standing, Ready, Turned, TurnTo, led-turn}
 
 -- what a string comes to, where a value or a name is due, in any containers
