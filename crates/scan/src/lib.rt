@@ -69,17 +69,14 @@ pub fn string_end(s: &[u8], at: usize) -> usize
 {
     let mut i = at;
     loop {
-        let q = swar::string_run(s, i);
+        let q = swar::unquoted_run(s, i);
         if q >= s.len() {
             return q;
         }
-        if s[q] == QUOTE {
+        if !escaped(s, i, q) {
             return q + 1;
         }
-        if s.len() - q < 2 {
-            return q + 1;
-        }
-        i = q + 2;
+        i = q + 1;
     }
 }
 
