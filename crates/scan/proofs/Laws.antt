@@ -1,14 +1,16 @@
 -- From runs of bytes to parts of the grammar: where a run of the right kind starts, the part that stands there is the run. Assumes nothing.
-use mathlib.Core.Path.{_≡_, refl, sym, ap, _∙_}
+use mathlib.Core.Path.{_≡_, refl, sym, ap, ap₂, _∙_}
 use mathlib.Core.List.{List, [], _∷_, _++_}
-use mathlib.Core.Bool.{Bool, true, false, not, _&&_, _||_, false≢true}
+use mathlib.Core.Bool.{Bool, true, false, not, _&&_, false≢true, and-false}
 use Prim.Native.Nat.{ℕ, suc, _+_, _-_, _≤_, _<_}
-use native.Mathlib.Numerals.{add-one}
+use native.Mathlib.Numerals.{add-one, add-two}
 use native.Mathlib.Omega.{arith}
 use lib.Dec.{eqb, ltb}
 use lib.ListN.{length, take, drop, getD, length-drop}
-use lib.Seq.{slice, take-append-seam}
+use lib.Seq.{slice, drop-drop, take-append-seam}
 use borrow.Author.Tests.{ltb-true, ltb-false, not-true, ne-eqb}
+use Rattle.blocks.specs.Laws.{or-parts, odd-drop}
+use Rattle.blocks.specs.Words.{byteAt, isBackslash, oddBefore}
 use Rattle.encoding.specs.Class.{classOf}
 use Rattle.encoding.specs.Bytes.{Blanks, putBlanks, putIn}
 use Rattle.json.specs.Append.{blanks-split, length-blanks, value-split, length-value, value-positive, append-chars, chars-split, length-chars}
@@ -17,7 +19,7 @@ use Rattle.json.specs.Grammar.{Literal, Minus, Int, Char, Name, Value}
 use Rattle.json.specs.Grammar.{putLiteral, putMinus, putInt, putFrac, putExp, putChars, putString, putKey, putValue}
 use Rattle.json.specs.Read.{in-bounds}
 use Rattle.select.specs.Nodes.{size, keySize}
-use Rattle.swar.specs.Kinds.{body, blank}
+use Rattle.swar.specs.Kinds.{unquoted, blank}
 use Rattle.swar.specs.Run.{Run}
 use Rattle.scan.specs.Places.{Head, head-of, past, past-blanks, slice-is}
 use Rattle.scan.specs.Scans.{isWordByte, IsScalar, EndsBlanks, EndsString, EndsScalar, EntersItem}
@@ -110,31 +112,94 @@ pub record Ahead (s rest : List ℕ) (e i : ℕ) : Type 0 where
   pub here : drop i s ≡ putPieces ps (0x22 ∷ rest)
   pub ends : e ≡ i + length (putPieces ps []) + 1
 
-inert-plain : (b : ℕ) → (eqb b 0x22 || eqb b 0x5C) ≡ false → body b ≡ true
-unfolding body
-inert-plain b h = go (eqb b 0x22) (eqb b 0x5C) h
-  where
-    go : (x y : Bool) → (x || y) ≡ false → (not x && not y) ≡ true
-    go true y e = sym e
-    go false y e = ap not e
+-- of the first quote from place i on, at q: the string ends there, or, behind an odd run of backslashes, is still ahead
+record FirstQuote (s rest : List ℕ) (e i q : ℕ) : Type 0 where
+  inside : q < length s
+  ends-here : oddBefore false (drop i s) (q - i) ≡ false → e ≡ q + 1
+  goes-on : oddBefore false (drop i s) (q - i) ≡ true → Ahead s rest e (q + 1)
 
--- a run of inert bytes leaves the string where it ends
-pub run-ahead : {s rest : List ℕ} {e i r : ℕ} → Run body s i r → Ahead s rest e i → Ahead s rest e r
-unfolding putPieces body
-run-ahead {s} {rest} {e} {i} {r} h a = go i (a .ps) (a .here) (a .ends) h
-  where
-    go : (i : ℕ) (ps : List Piece) → drop i s ≡ putPieces ps (0x22 ∷ rest) → e ≡ i + length (putPieces ps []) + 1 → Run body s i r → Ahead s rest e r
-    go i [] d f h =
-        let x = head-of s i 0x22 rest d in
-        let z : r ≡ i = run-here h (ap body (x .byte-is)) in
-        rw z (record { ps = []; here = d; ends = f })
-    go i (plain b n ∷ ps) d f h =
-        let x = head-of s i b (putPieces ps (0x22 ∷ rest)) d in
-        go (suc i) ps (x .rest-is) (omega arith) (run-next h (x .inside) (ap body (x .byte-is) ∙ inert-plain b n))
-    go i (escaped b ∷ ps) d f h =
-        let x = head-of s i 0x5C (b ∷ putPieces ps (0x22 ∷ rest)) d in
-        let z : r ≡ i = run-here h (ap body (x .byte-is)) in
-        rw z (record { ps = escaped b ∷ ps; here = d; ends = f })
+-- a piece that ends at place j: no odd run of backslashes reaches over j, so what the quote is may be asked from there
+past-piece : {s rest : List ℕ} {e i j q : ℕ} (n : ℕ) → i + n ≡ j → j ≤ q → oddBefore false (drop i s) n ≡ false
+    → FirstQuote s rest e j q → FirstQuote s rest e i q
+past-piece {s} {i} {j} {q} n at h even x =
+    let z : q - i ≡ n + (q - j) = omega arith in
+    let same : oddBefore false (drop i s) (q - i) ≡ oddBefore false (drop j s) (q - j) =
+    ap (oddBefore false (drop i s)) z
+    ∙ sym (odd-drop (drop i s) false false n (q - j))
+    ∙ ap₂ (λ (o : Bool) (t : List ℕ). oddBefore o t (q - j)) even (drop-drop n i s ∙ ap (λ (k : ℕ). drop k s) at) in
+    record { inside = x .inside; ends-here = λ g. x .ends-here (sym same ∙ g); goes-on = λ g. x .goes-on (sym same ∙ g) }
+
+-- the run of backslashes behind each piece: none behind a plain byte, one inside an escape, and none behind it
+plain-even : (b : ℕ) (u : List ℕ) → eqb b 0x5C ≡ false → oddBefore false (b ∷ u) 1 ≡ false
+unfolding oddBefore isBackslash byteAt
+plain-even b u e = rw e
+
+escape-odd : (u : List ℕ) → oddBefore false (0x5C ∷ u) 1 ≡ true
+unfolding oddBefore isBackslash byteAt
+escape-odd u = refl
+
+escape-even : (b : ℕ) (u : List ℕ) → oddBefore false (0x5C ∷ b ∷ u) 2 ≡ false
+unfolding oddBefore isBackslash byteAt
+escape-even b u = and-false (eqb b 0x5C)
+
+-- an escape: its byte is the quote, or the quote is behind it
+module _ {s : List ℕ} {i q b : ℕ} {u : List ℕ} (here : drop i s ≡ 0x5C ∷ b ∷ u) (run : Run unquoted s i q) where
+  after-escape : Head s (suc i) b u
+  after-escape = head-of s (suc i) b u (head-of s i 0x5C (b ∷ u) here .rest-is)
+
+  run-escape : Run unquoted s (suc i) q
+  unfolding unquoted
+  run-escape = let x = head-of s i 0x5C (b ∷ u) here in run-next run (x .inside) (ap unquoted (x .byte-is))
+
+  module _ {rest : List ℕ} {e : ℕ} where
+    escaped-quote : eqb b 0x22 ≡ true → Ahead s rest e (suc (suc i)) → FirstQuote s rest e i q
+    unfolding unquoted
+    escaped-quote f ahead =
+        let z : q ≡ suc i = run-here run-escape (ap unquoted (after-escape .byte-is) ∙ ap not f) in
+        let one : q - i ≡ 1 = omega arith in
+        let there : suc (suc i) ≡ q + 1 = omega arith in
+        let odd : oddBefore false (drop i s) (q - i) ≡ true = ap₂ (oddBefore false) here one ∙ escape-odd (b ∷ u) in
+        record {
+          inside = omega (arith, after-escape .inside);
+          ends-here = λ g. absurd (false≢true (sym g ∙ odd));
+          goes-on = λ g. rw there at ahead;
+        }
+
+    escaped-other : eqb b 0x22 ≡ false → (Run unquoted s (suc (suc i)) q → FirstQuote s rest e (suc (suc i)) q) → FirstQuote s rest e i q
+    unfolding unquoted
+    escaped-other f more =
+        let onward = run-next run-escape (after-escape .inside) (ap unquoted (after-escape .byte-is) ∙ ap not f) in
+        past-piece 2 (add-two i) (onward .passed .forward) (rw here (escape-even b u)) (more onward)
+
+    past-escape : Ahead s rest e (suc (suc i)) → (Run unquoted s (suc (suc i)) q → FirstQuote s rest e (suc (suc i)) q) → FirstQuote s rest e i q
+    past-escape ahead more = go (eqb b 0x22) refl
+      where
+        go : (x : Bool) → eqb b 0x22 ≡ x → FirstQuote s rest e i q
+        go true f = escaped-quote f ahead
+        go false f = escaped-other f more
+
+-- piece by piece
+first-quote : {s rest : List ℕ} {e i q : ℕ} (ps : List Piece) → drop i s ≡ putPieces ps (0x22 ∷ rest)
+    → e ≡ i + length (putPieces ps []) + 1 → Run unquoted s i q → FirstQuote s rest e i q
+unfolding putPieces unquoted oddBefore
+first-quote {s} {rest} {e} {i} {q} [] d f run =
+    let x = head-of s i 0x22 rest d in
+    let z : q ≡ i = run-here run (ap unquoted (x .byte-is)) in
+    let none : q - i ≡ 0 = omega arith in
+    record {
+      inside = omega (arith, x .inside);
+      ends-here = λ g. omega arith;
+      goes-on = λ g. absurd (false≢true (sym (ap (oddBefore false (drop i s)) none) ∙ g));
+    }
+first-quote {s} {rest} {e} {i} {q} (plain b n ∷ ps) d f run =
+    let x = head-of s i b (putPieces ps (0x22 ∷ rest)) d in
+    let (no-quote, no-backslash) = or-parts (eqb b 0x22) (eqb b 0x5C) n in
+    let onward = run-next run (x .inside) (ap unquoted (x .byte-is) ∙ ap not no-quote) in
+    past-piece 1 (add-one i) (onward .passed .forward) (rw d (plain-even b (putPieces ps (0x22 ∷ rest)) no-backslash))
+    (first-quote ps (x .rest-is) (omega arith) onward)
+first-quote {s} {rest} {e} {i} {q} (escaped b ∷ ps) d f run =
+    let there = after-escape d run .rest-is in
+    past-escape d run (record { ps = ps; here = there; ends = omega arith }) (first-quote ps there (omega arith))
 
 -- the characters of a string are ahead of the place after its opening quote
 chars-ahead : {s : List ℕ} {a : ℕ} (cs : List Char) (rest : List ℕ) → drop a s ≡ putChars cs (0x22 ∷ rest)
@@ -145,56 +210,6 @@ chars-ahead {s} {a} cs rest e =
 -- from place a to place i the string has not ended
 abbrev pub Until : List ℕ → ℕ → ℕ → Type 0
 Until s a i = (rest : List ℕ) (e : ℕ) → Ahead s rest e a → Ahead s rest e i
-
-module _ {s : List ℕ} {a i q : ℕ} (until : Until s a i) (run : Run body s i q) (rest : List ℕ) (e : ℕ) (ahead : Ahead s rest e a) where
-  at-stop : Ahead s rest e q
-  at-stop = run-ahead run (until rest e ahead)
-
-  stop-inside : q < length s
-  unfolding putPieces
-  stop-inside = go (at-stop .ps) (at-stop .here)
-    where
-      go : (ps : List Piece) → drop q s ≡ putPieces ps (0x22 ∷ rest) → q < length s
-      go [] d = head-of s q 0x22 rest d .inside
-      go (plain b n ∷ ps) d = head-of s q b (putPieces ps (0x22 ∷ rest)) d .inside
-      go (escaped b ∷ ps) d = head-of s q 0x5C (b ∷ putPieces ps (0x22 ∷ rest)) d .inside
-
-  no-plain : (b : ℕ) → (eqb b 0x22 || eqb b 0x5C) ≡ false → getD s q 0 ≡ b → ⊥
-  no-plain b n f = false≢true (sym (run .stop stop-inside) ∙ ap body f ∙ inert-plain b n)
-
-  -- the string ends at a quote where a run of inert bytes stops
-  quote-ends : getD s q 0 ≡ 0x22 → e ≡ q + 1
-  unfolding putPieces
-  quote-ends f = go (at-stop .ps) (at-stop .here) (at-stop .ends)
-    where
-      go : (ps : List Piece) → drop q s ≡ putPieces ps (0x22 ∷ rest) → e ≡ q + length (putPieces ps []) + 1 → e ≡ q + 1
-      go [] d g = omega arith
-      go (plain b n ∷ ps) d g = absurd (no-plain b n (head-of s q b (putPieces ps (0x22 ∷ rest)) d .byte-is))
-      go (escaped b ∷ ps) d g =
-          let z : _≡_ {A = ℕ} 0x5C 0x22 = sym (head-of s q 0x5C (b ∷ putPieces ps (0x22 ∷ rest)) d .byte-is) ∙ f in
-          absurd (omega arith)
-
-  -- a backslash takes the byte after it along
-  escape-ahead : (getD s q 0 ≡ 0x22 → ⊥) → (q + 2 < length s) × Ahead s rest e (q + 2)
-  unfolding putPieces
-  escape-ahead f = go (at-stop .ps) (at-stop .here) (at-stop .ends)
-    where
-      two : q + 2 ≡ suc (suc q)
-      two = omega arith
-
-      go : (ps : List Piece) → drop q s ≡ putPieces ps (0x22 ∷ rest) → e ≡ q + length (putPieces ps []) + 1
-          → (q + 2 < length s) × Ahead s rest e (q + 2)
-      go [] d g = absurd (f (head-of s q 0x22 rest d .byte-is))
-      go (plain b n ∷ ps) d g = absurd (no-plain b n (head-of s q b (putPieces ps (0x22 ∷ rest)) d .byte-is))
-      go (escaped b ∷ ps) d g =
-          let x = head-of s q 0x5C (b ∷ putPieces ps (0x22 ∷ rest)) d in
-          let y = head-of s (suc q) b (putPieces ps (0x22 ∷ rest)) (x .rest-is) in
-          (omega (arith, more (suc (suc q)) ps (y .rest-is)), rw two (record { ps = ps; here = y .rest-is; ends = omega arith }))
-        where
-          more : (j : ℕ) (ps : List Piece) → drop j s ≡ putPieces ps (0x22 ∷ rest) → j < length s
-          more j [] d = head-of s j 0x22 rest d .inside
-          more j (plain b n ∷ ps) d = head-of s j b (putPieces ps (0x22 ∷ rest)) d .inside
-          more j (escaped b ∷ ps) d = head-of s j 0x5C (b ∷ putPieces ps (0x22 ∷ rest)) d .inside
 
 pub ends-string : {s : List ℕ} {a r : ℕ} → a ≤ r → r ≤ length s → ((rest : List ℕ) (e : ℕ) → Ahead s rest e a → e ≡ r) → EndsString s a r
 ends-string {s} {a} {r} h l f =
@@ -402,27 +417,25 @@ pub record Within (s : List ℕ) (a i : ℕ) : Type 0 where
 pub within-start : (s : List ℕ) (a : ℕ) → a ≤ length s → Within s a a
 within-start s a h = record { onward = omega arith; inside = h; until = λ rest e x. x }
 
-module _ (s : List ℕ) (a i q : ℕ) (w : Within s a i) (run : Run body s i q) where
+module _ {s : List ℕ} {a i q : ℕ} (w : Within s a i) (run : Run unquoted s i q) where
+  met : (rest : List ℕ) (e : ℕ) → Ahead s rest e a → FirstQuote s rest e i q
+  met rest e x = let y = w .until rest e x in first-quote (y .ps) (y .here) (y .ends) run
+
   pub string-out : length s ≤ q → EndsString s a q
   string-out h =
       ends-string (omega (arith, w .onward, run .passed .forward)) (run .passed .within)
-      (λ rest e x. absurd (omega (arith, stop-inside (w .until) run rest e x)))
+      (λ rest e x. absurd (omega (arith, met rest e x .inside)))
 
-  pub string-quote : q < length s → getD s q 0 ≡ 0x22 → EndsString s a (q + 1)
-  string-quote h f =
-      ends-string (omega (arith, w .onward, run .passed .forward)) (omega arith) (λ rest e x. quote-ends (w .until) run rest e x f)
+  pub string-closed : q < length s → oddBefore false (drop i s) (q - i) ≡ false → EndsString s a (q + 1)
+  string-closed h f =
+      ends-string (omega (arith, w .onward, run .passed .forward)) (omega arith) (λ rest e x. met rest e x .ends-here f)
 
-  pub string-short : q < length s → (getD s q 0 ≡ 0x22 → ⊥) → length s - q < 2 → EndsString s a (q + 1)
-  string-short h f g =
-      ends-string (omega (arith, w .onward, run .passed .forward)) (omega arith)
-      (λ rest e x. absurd (omega (arith, escape-ahead (w .until) run rest e x f .0)))
-
-  pub string-on : q < length s → (getD s q 0 ≡ 0x22 → ⊥) → 2 ≤ length s - q → Within s a (q + 2)
-  string-on h f g =
+  pub string-on : q < length s → oddBefore false (drop i s) (q - i) ≡ true → Within s a (q + 1)
+  string-on h f =
       record {
         onward = omega (arith, w .onward, run .passed .forward);
         inside = omega arith;
-        until = λ rest e x. escape-ahead (w .until) run rest e x f .1;
+        until = λ rest e x. met rest e x .goes-on f;
       }
 
 -- what holds of an item in a container of one kind holds where the flag says that kind

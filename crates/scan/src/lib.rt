@@ -1,13 +1,17 @@
 // Scanners over a checked record: blanks, strings, words, and what stands before an item's value.
 ghost use mathlib.Core.Path.{_≡_};
-ghost use Prim.Native.Nat.{_≤_};
-ghost use lib.ListN.{length};
+ghost use mathlib.Core.Bool.{false};
+ghost use Prim.Native.Nat.{_-_, _≤_};
+ghost use lib.ListN.{length, drop};
+ghost use Rattle.blocks.specs.Words.{oddBefore};
 ghost use Rattle.encoding.specs.ClassTable.{ClassTable};
 ghost use Rattle.swar.specs.Run.{Run};
 ghost use Rattle.scan.specs.Shape.{endsWord};
 ghost use Rattle.scan.specs.Scans.{isWordByte, EndsBlanks, EndsString, EndsScalar, EntersItem};
 
 const QUOTE: u8 = 0x22;
+
+const BACKSLASH: u8 = 0x5C;
 
 // The first byte of an item's value, and where its name's bytes are; both ends are 0 in an array.
 pub struct Entered {
@@ -39,6 +43,25 @@ pub fn skip_blanks(s: &[u8], at: usize) -> usize
     swar::blank_run(s, at)
 }
 
+// Whether an odd run of backslashes stands just before `q`, of the bytes from `from` on.
+fn escaped(s: &[u8], from: usize, q: usize) -> bool
+    requires { ⌜ from ≤ q ⌝ }
+    requires { ⌜ q ≤ length (now s) ⌝ }
+    ensures { λ r. ⌜ r ≡ oddBefore false (drop from (now (s .entry))) (q - from) ⌝ }
+{
+    let mut odd = false;
+    let mut i = q;
+    while i > from {
+        let before = i - 1;
+        if s[before] != BACKSLASH {
+            return odd;
+        }
+        odd = !odd;
+        i = before;
+    }
+    odd
+}
+
 // The place after the closing quote of the string whose opening quote stands just before `at`.
 pub fn string_end(s: &[u8], at: usize) -> usize
     requires { ⌜ at ≤ length (now s) ⌝ }
@@ -46,17 +69,14 @@ pub fn string_end(s: &[u8], at: usize) -> usize
 {
     let mut i = at;
     loop {
-        let q = swar::string_run(s, i);
+        let q = swar::unquoted_run(s, i);
         if q >= s.len() {
             return q;
         }
-        if s[q] == QUOTE {
+        if !escaped(s, i, q) {
             return q + 1;
         }
-        if s.len() - q < 2 {
-            return q + 1;
-        }
-        i = q + 2;
+        i = q + 1;
     }
 }
 

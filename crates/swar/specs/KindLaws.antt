@@ -10,7 +10,7 @@ use Rattle.encoding.specs.Bytes.{Blank, space, tab, feed, return, blankByte}
 use Rattle.encoding.specs.BytesLaws.{inside, beneath, beyond}
 use Rattle.encoding.specs.Class.{classOf}
 use Rattle.encoding.specs.ClassLaws as Class
-use Rattle.swar.specs.Kinds.{plain, body, blank, spaceByte, stringKind}
+use Rattle.swar.specs.Kinds.{plain, unquoted, blank, spaceByte, stringKind}
 
 -- a plain byte, by the range that it is of
 pub data Plain (b : ℕ) : Type 0 where
@@ -78,25 +78,13 @@ module _ {b : ℕ} where
       go (inl p) = never (sym (plain-holds p) ∙ e)
       go (inr n) = n
 
-  pub body-holds : (b ≡ 0x22 → ⊥) → (b ≡ 0x5C → ⊥) → body b ≡ true
-  unfolding body
-  body-holds q s = rw (ne-eqb b 0x22 q, ne-eqb b 0x5C s)
+  pub unquoted-holds : (b ≡ 0x22 → ⊥) → unquoted b ≡ true
+  unfolding unquoted
+  unquoted-holds q = rw (ne-eqb b 0x22 q)
 
-  pub body-fails : (b ≡ 0x22) ⊎ (b ≡ 0x5C) → body b ≡ false
-  unfolding body
-  body-fails (inl e) = rw e
-  body-fails (inr e) = rw e
-
-  pub is-body : body b ≡ true → (b ≡ 0x22 → ⊥) × (b ≡ 0x5C → ⊥)
-  is-body e = (λ q. never (sym e ∙ body-fails (inl q)), λ s. never (sym e ∙ body-fails (inr s)))
-
-  pub not-body : body b ≡ false → (b ≡ 0x22) ⊎ (b ≡ 0x5C)
-  not-body e = go (eqb b 0x22) refl (eqb b 0x5C) refl
-    where
-      go : (x : Bool) → eqb b 0x22 ≡ x → (y : Bool) → eqb b 0x5C ≡ y → (b ≡ 0x22) ⊎ (b ≡ 0x5C)
-      go true p y q = inl (eqb-true b 0x22 p)
-      go false p true q = inr (eqb-true b 0x5C q)
-      go false p false q = never (sym (body-holds (eqb-false b 0x22 p) (eqb-false b 0x5C q)) ∙ e)
+  pub unquoted-fails : b ≡ 0x22 → unquoted b ≡ false
+  unfolding unquoted
+  unquoted-fails e = rw e
 
   pub blank-holds : (w : Blank) → b ≡ blankByte w → blank b ≡ true
   unfolding blank
@@ -130,11 +118,10 @@ module _ {b : ℕ} where
       go (inr (backslash e)) = absurd (s e)
       go (inr (wide u)) = absurd (omega arith)
 
-  -- a quote and a backslash end a run of either kind
-  pub string-fails : (strict : Bool) → (b ≡ 0x22) ⊎ (b ≡ 0x5C) → stringKind strict b ≡ false
-  string-fails true (inl e) = plain-fails (quote e)
-  string-fails true (inr e) = plain-fails (backslash e)
-  string-fails false e = body-fails e
+  -- a quote ends a run of either kind
+  pub string-fails : (strict : Bool) → b ≡ 0x22 → stringKind strict b ≡ false
+  string-fails true e = plain-fails (quote e)
+  string-fails false e = unquoted-fails e
 
 pub space-blank : (b : ℕ) → spaceByte b ≡ true → blank b ≡ true
 unfolding spaceByte

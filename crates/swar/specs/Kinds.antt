@@ -8,9 +8,9 @@ use Rattle.encoding.specs.Class.{classOf}
 unfoldable pub plain : ℕ → Bool
 plain b = (leb 0x20 b && leb b 0x21) || ((leb 0x23 b && leb b 0x5B) || (leb 0x5D b && leb b 0x7F))
 
--- a byte that neither ends a string nor escapes: neither quote nor backslash
-unfoldable pub body : ℕ → Bool
-body b = not (eqb b 0x22) && not (eqb b 0x5C)
+-- a byte that is no quote
+unfoldable pub unquoted : ℕ → Bool
+unquoted b = not (eqb b 0x22)
 
 -- a blank, by its class
 unfoldable pub blank : ℕ → Bool
@@ -24,7 +24,7 @@ spaceByte b = eqb b 0x20
 unfoldable pub inner : ℕ → Bool
 inner b = leb 0x2D b && (not (eqb b 0x5D) && not (eqb b 0x7D))
 
--- the bytes of a string, strictly or not
+-- the bytes up to a string's next quote, strictly plain or not
 abbrev pub stringKind : Bool → ℕ → Bool
 stringKind true b = plain b
-stringKind false b = body b
+stringKind false b = unquoted b

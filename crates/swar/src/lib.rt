@@ -2,7 +2,7 @@
 ghost use Prim.Native.Nat.{_+_, _-_, _%_, _^_, _≤_};
 ghost use mathlib.Core.Path.{_≡_};
 ghost use lib.ListN.{length};
-ghost use Rattle.swar.specs.Kinds.{plain, body, blank, spaceByte, inner, stringKind};
+ghost use Rattle.swar.specs.Kinds.{plain, unquoted, blank, spaceByte, inner, stringKind};
 ghost use Rattle.swar.specs.Run.{Passed, Run};
 ghost use Rattle.swar.specs.Stops.{Stops, FirstByte};
 
@@ -28,18 +28,18 @@ const HIGHEST: u64 = 0x8080808080808080;
 
 const ALL: u64 = 0xffffffffffffffff;
 
-// Whether `b` is a plain byte of a string, or, where `strict` is false, neither quote nor backslash.
+// Whether `b` is a plain byte of a string, or, where `strict` is false, no quote.
 fn in_string(b: u8, strict: bool) -> bool
     ensures { λ r. ⌜ r ≡ stringKind strict b ⌝ }
 {
     if b == QUOTE {
         return false;
     }
-    if b == BACKSLASH {
-        return false;
-    }
     if !strict {
         return true;
+    }
+    if b == BACKSLASH {
+        return false;
     }
     if b < 0x20 {
         return false;
@@ -57,13 +57,11 @@ fn minus(x: u64, m: u64) -> u64
     std::num::wrapping_sub_u64(x, m)
 }
 
-// Of eight bytes, those before the first quote or backslash come back as 0, and that one not.
-fn body_stops(x: u64) -> u64
-    ensures { λ r. ⌜ Stops body x r ⌝ }
+// Of eight bytes, those before the first quote come back as 0, and that one not.
+fn unquoted_stops(x: u64) -> u64
+    ensures { λ r. ⌜ Stops unquoted x r ⌝ }
 {
-    let quote = minus(x ^ 0x2222222222222222, EACH);
-    let backslash = minus(x ^ 0x5c5c5c5c5c5c5c5c, EACH);
-    (quote | backslash) & (x ^ ALL) & HIGHEST
+    minus(x ^ 0x2222222222222222, EACH) & (x ^ ALL) & HIGHEST
 }
 
 // Of eight bytes, those before the first that is not plain in a string come back as 0, and that one not.
@@ -92,7 +90,7 @@ fn stops(x: u64, strict: bool) -> u64
     if strict {
         plain_stops(x)
     } else {
-        body_stops(x)
+        unquoted_stops(x)
     }
 }
 
@@ -142,10 +140,10 @@ pub fn plain_run(s: &[u8], at: usize) -> usize
     string_bytes(s, at, true)
 }
 
-// The end of the bytes from `at` on that are neither quote nor backslash.
-pub fn string_run(s: &[u8], at: usize) -> usize
+// The end of the bytes from `at` on that are no quotes.
+pub fn unquoted_run(s: &[u8], at: usize) -> usize
     requires { ⌜ at ≤ length (now s) ⌝ }
-    ensures { λ r. ⌜ Run body (now (s .entry)) at r ⌝ }
+    ensures { λ r. ⌜ Run unquoted (now (s .entry)) at r ⌝ }
 {
     string_bytes(s, at, false)
 }

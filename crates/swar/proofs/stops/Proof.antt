@@ -7,14 +7,14 @@ use Rattle.swar.proofs.stops.Tie as tie
 plain-stops-requires : tie.Need-plain-stops-requires
 plain-stops-requires c κs = search needs
 
-body-stops-requires : tie.Need-body-stops-requires
-body-stops-requires c κs = search needs
+unquoted-stops-requires : tie.Need-unquoted-stops-requires
+unquoted-stops-requires c κs = search needs
 
 returns : tie.Need-returns
 returns c = rw (c .before .if1 .taken) (c .plain-stops .ensures)
 
 returns-2 : tie.Need-returns-2
-returns-2 c = rw (c .before .if1 .left) (c .body-stops .ensures)
+returns-2 c = rw (c .before .if1 .left) (c .unquoted-stops .ensures)
 
 pub stops-spec : {M : Type 1} → statement M
-stops-spec = tie.close (tie.spec plain-stops-requires body-stops-requires returns returns-2)
+stops-spec = tie.close (tie.spec plain-stops-requires unquoted-stops-requires returns returns-2)
