@@ -21,6 +21,14 @@ numbers (r ∷ rs) = r .low ∷ r .high ∷ r .second-low ∷ r .second-high ∷
 pub record RowTable (table : List ℕ) : Type 0 where
   pub same : table ≡ numbers rows
 
+-- the numbers of row n
+pub record RowIs (n low high least most bytes : ℕ) : Type 0 where
+  pub low-is : low ≡ rowAt rows n .low
+  pub high-is : high ≡ rowAt rows n .high
+  pub least-is : least ≡ rowAt rows n .second-low
+  pub most-is : most ≡ rowAt rows n .second-high
+  pub bytes-are : bytes ≡ rowAt rows n .bytes
+
 -- r is the number of the row, after the first, that has b as a first byte, or 9 where none has
 pub record RowOf (b r : ℕ) : Type 0 where
   pub within : r ≤ 9

@@ -5,7 +5,7 @@ ghost use lib.ListN.{length, getD};
 ghost use Rattle.encoding.specs.Class.{classOf};
 ghost use Rattle.encoding.specs.ClassTable.{ClassTable};
 ghost use Rattle.encoding.specs.CodePoint.{due, reading, Scanned};
-ghost use Rattle.encoding.specs.RowTable.{RowTable, RowOf};
+ghost use Rattle.encoding.specs.RowTable.{RowTable, RowIs, RowOf};
 ghost use Rattle.encoding.specs.WideRun.{WideRun};
 
 mod tables;
@@ -54,6 +54,35 @@ pub fn rows() -> [u8; 45]
     ensures { λ r. ⌜ RowTable r ⌝ }
 {
     tables::ROWS
+}
+
+// A row of UTF-8: the bounds of the first byte, the least and the most that the second may be, and the number of bytes.
+pub struct Row {
+    pub low: u8,
+    pub high: u8,
+    pub least: u8,
+    pub most: u8,
+    pub bytes: u8,
+}
+
+// Row number `n` of the table.
+pub fn row_at(rows: &[u8; 45], n: usize) -> Row
+    requires { ⌜ RowTable (now rows) × (n < 9) ⌝ }
+    ensures { λ r. ⌜ RowIs n (r .low) (r .high) (r .least) (r .most) (r .bytes) ⌝ }
+{
+    let first = n * ROW_SIZE;
+    let low = rows[first + LOW];
+    let high = rows[first + HIGH];
+    let least = rows[first + SECOND_LOW];
+    let most = rows[first + SECOND_HIGH];
+    let bytes = rows[first + BYTES];
+    Row {
+        low,
+        high,
+        least,
+        most,
+        bytes,
+    }
 }
 
 // What a reader of bytes found: ok, and the place after what it read; or not ok, and the place of the first byte that is wrong, which is

@@ -1,6 +1,8 @@
 pub mod Among
 pub mod Blanks
 pub mod Checks
+pub mod Moves
+pub mod MoveLaws
 pub mod Nesting
 pub mod Numbers
 pub mod Opened

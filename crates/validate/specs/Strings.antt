@@ -133,7 +133,7 @@ hex-done f n h p = let e : n ≡ 0 = omega arith in rw e at p
 -- code points from 80 (hexadecimal) on
 
 -- what is due of one
-abbrev tails : Due → Bool → Ctl
+abbrev pub tails : Due → Bool → Ctl
 tails U.one f = tailDue anyTail 0 f
 tails U.two f = tailDue anyTail 1 f
 tails U.three f = tailDue anyTail 2 f

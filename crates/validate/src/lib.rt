@@ -4,6 +4,7 @@ ghost use lib.ListN.{length};
 ghost use Rattle.json.specs.Verdict.{textVerdict, recordVerdict};
 ghost use Rattle.validate.specs.Checks.{Answers};
 
+mod moves;
 mod numbers;
 mod strings;
 mod turns;
@@ -30,12 +31,13 @@ fn check_text(text: &[u8]) -> Checked
     ensures { λ r. ⌜ Answers (textVerdict (now (text .entry))) (r .ground) (r .place) ⌝ }
 {
     let rows = encoding::rows();
+    let table = moves::moves(&rows, text.len());
     let mut kinds: [u8; 512] = [0; 512];
     let mut depth: usize = 0;
     let mut due = turns::VALUE;
     let mut i = swar::blank_run(text, 0);
     while i < text.len() {
-        let turn = turns::take_turn(text, &rows, &mut kinds, i, depth, due);
+        let turn = turns::take_turn(text, &rows, &table, &mut kinds, i, depth, due);
         let at = turn.at;
         if turn.ground != 0 {
             return Checked {

@@ -9,7 +9,9 @@ ghost use Rattle.swar.specs.KindLaws.{NotPlain};
 ghost use Rattle.json.specs.Machine.{inString, escaping, hexDue, closed};
 ghost use Rattle.json.specs.Led.{Led};
 ghost use Rattle.validate.specs.Among.{Among};
+ghost use Rattle.validate.specs.Moves.{Leads};
 ghost use Rattle.validate.specs.Strings.{escapeLetters, HexDigit, Character};
+use crate::moves;
 use encoding::Scan;
 
 const QUOTE: u8 = 0x22;
@@ -120,11 +122,16 @@ fn escape_end(s: &[u8], at: usize) -> Scan
     hex_end(s, at + 1)
 }
 
-// Reads what is not a plain byte nor the closing quote: one escape, or the code points from 80 (hexadecimal) on that stand there.
-fn character_end(s: &[u8], rows: &[u8; 45], at: usize) -> Scan
-    requires { ⌜ RowTable (now rows) × (at < length (now s)) × NotPlain (getD (now s) at 0) × (getD (now s) at 0 ≡ 0x22 → ⊥) ⌝ }
+// Reads what is not a plain byte nor the closing quote: the characters to which the moves lead, or, where they lead to none, one escape or
+// the code points from 80 (hexadecimal) on that stand there.
+fn character_end(s: &[u8], rows: &[u8; 45], table: &[u64; 256], at: usize) -> Scan
+    requires { ⌜ RowTable (now rows) × (at < length (now s)) × NotPlain (getD (now s) at 0) × (getD (now s) at 0 ≡ 0x22 → ⊥) × Leads (now table) ⌝ }
     ensures { λ r. ⌜ Character (now (s .entry)) at (r .ok) (r .at) ⌝ }
 {
+    let end = moves::characters_end(table, s, at);
+    if end > at {
+        return Scan { ok: true, at: end };
+    }
     if s[at] >= WIDE {
         return encoding::code_points(rows, s, at);
     }
@@ -135,8 +142,8 @@ fn character_end(s: &[u8], rows: &[u8; 45], at: usize) -> Scan
 }
 
 // Reads a string from what follows its opening quote up to the place after its closing quote.
-pub fn string_end(s: &[u8], rows: &[u8; 45], from: usize) -> Scan
-    requires { ⌜ RowTable (now rows) × (from ≤ length (now s)) ⌝ }
+pub fn string_end(s: &[u8], rows: &[u8; 45], table: &[u64; 256], from: usize) -> Scan
+    requires { ⌜ RowTable (now rows) × (from ≤ length (now s)) × Leads (now table) ⌝ }
     ensures { λ r. ⌜ ((f : Bool) → Led (now (s .entry)) from (inString f) (closed f) (r .ok) (r .at)) ⌝ }
 {
     let mut i = swar::plain_run(s, from);
@@ -147,7 +154,7 @@ pub fn string_end(s: &[u8], rows: &[u8; 45], from: usize) -> Scan
                 at: i + 1,
             };
         }
-        let character = character_end(s, rows, i);
+        let character = character_end(s, rows, table, i);
         let at = character.at;
         if !character.ok {
             return Scan { ok: false, at };

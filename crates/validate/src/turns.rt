@@ -7,6 +7,7 @@ ghost use Rattle.encoding.specs.RowTable.{RowTable};
 ghost use Rattle.json.specs.Grammar as grammar;
 ghost use Rattle.json.specs.Led.{Led};
 ghost use Rattle.json.specs.Machine.{afterMinus, colon, valueDue};
+ghost use Rattle.validate.specs.Moves.{Leads};
 ghost use Rattle.validate.specs.Nesting.{kindOf};
 ghost use Rattle.validate.specs.Scalars.{Bare, Scalar};
 ghost use Rattle.validate.specs.Texts.{Texted};
@@ -189,11 +190,11 @@ fn colon_end(s: &[u8], at: usize) -> Scan
 }
 
 // Reads a string, where a value or a name is due, and the colon after a name.
-fn text(s: &[u8], rows: &[u8; 45], at: usize, depth: usize, due: u8) -> Turn
-    requires { ⌜ RowTable (now rows) × (at < length (now s)) × (getD (now s) at 0 ≡ 0x22) × (due < 2) ⌝ }
+fn text(s: &[u8], rows: &[u8; 45], table: &[u64; 256], at: usize, depth: usize, due: u8) -> Turn
+    requires { ⌜ RowTable (now rows) × (at < length (now s)) × (getD (now s) at 0 ≡ 0x22) × (due < 2) × Leads (now table) ⌝ }
     ensures { λ r. ⌜ Texted (now (s .entry)) at depth due (r .ground) (r .at) (r .depth) (r .due) ⌝ }
 {
-    let string = strings::string_end(s, rows, at + 1);
+    let string = strings::string_end(s, rows, table, at + 1);
     let end = string.at;
     if !string.ok {
         return turn_to(false, end, depth, AFTER);
@@ -229,19 +230,20 @@ fn separator(s: &[u8], kinds: &[u8; 512], at: usize, depth: usize) -> Turn
 pub fn take_turn(
     s: &[u8],
     rows: &[u8; 45],
+    table: &[u64; 256],
     kinds: &mut [u8; 512],
     at: usize,
     depth: usize,
     due: u8,
 ) -> Turn
-    requires { ⌜ RowTable (now rows) × Ready (now s) (now kinds) depth at × (due ≤ 2) ⌝ }
+    requires { ⌜ RowTable (now rows) × Ready (now s) (now kinds) depth at × (due ≤ 2) × Leads (now table) ⌝ }
     ensures { λ r. ⌜ Turned (standing (now (s .entry)) due (now (kinds .entry)) depth at) (now (s .entry)) at (now (kinds .exit)) (r .ground) (r .at) (r .depth) (r .due) ⌝ }
 {
     if due == AFTER {
         return separator(s, kinds, at, depth);
     }
     if s[at] == b'"' {
-        return text(s, rows, at, depth, due);
+        return text(s, rows, table, at, depth, due);
     }
     if due == NAME {
         return turn_to(false, at, depth, due);

@@ -16,11 +16,11 @@ use Rattle.validate.proofs.strings.string_end.Statement.{statement}
 use Rattle.validate.proofs.strings.string_end.Tie as tie
 
 abbrev Inv-loop : tie.InvT-loop
-Inv-loop s rows from i₀ i =
+Inv-loop s rows table from i₀ i =
     ((f : Bool) → Led s from (inString f) (inString f) true i) × (i < length s → plain (getD s i 0) ≡ false)
 
 abbrev μ-loop : tie.MeasureT-loop
-μ-loop s rows from i₀ i = length s - i
+μ-loop s rows table from i₀ i = length s - i
 
 plain-run-requires : tie.Need-plain-run-requires Inv-loop μ-loop
 plain-run-requires c κs = search needs
@@ -31,14 +31,17 @@ loop-holds c = (λ f. led-plain (led-here _ _ (inString f) (c .before .before .p
 shared-slice-read-if1 : tie.Need-shared-slice-read-if1 Inv-loop μ-loop
 shared-slice-read-if1 c = search needs
 
-add-t11 : tie.Need-add-t11 Inv-loop μ-loop
-add-t11 c = search needs
+add-t12 : tie.Need-add-t12 Inv-loop μ-loop
+add-t12 c = search needs
 
 returns : tie.Need-returns Inv-loop μ-loop
 returns c = λ f. string-closed (c .before .before .before .loop .inv .0 f) (c .before .before .loop-test .taken) (c .if1 .taken)
 
 character-end-requires : tie.Need-character-end-requires Inv-loop μ-loop
-character-end-requires c κs = (c .before .before .before .before .before .before .pre .0, c .before .before .loop-test .taken, not-plain (c .before .before .before .loop .inv .1 (c .before .before .loop-test .taken)), c .if1 .left)
+character-end-requires c κs =
+    let pre = c .before .before .before .before .before .before .pre in
+    let inside = c .before .before .loop-test .taken in
+    (pre .0, inside, not-plain (c .before .before .before .loop .inv .1 inside), c .if1 .left, pre .2)
 
 returns-2 : tie.Need-returns-2 Inv-loop μ-loop
 returns-2 c = λ f. string-wrong (c .before .before .before .before .before .before .loop .inv .0 f) (c .before .before .character-end .ensures) (not-true _ (c .if2 .taken))
@@ -64,7 +67,7 @@ string-end-spec =
     plain-run-requires
     loop-holds
     shared-slice-read-if1
-    add-t11
+    add-t12
     returns
     character-end-requires
     returns-2

@@ -17,7 +17,9 @@ shared-slice-read-if2 : tie.Need-shared-slice-read-if2
 shared-slice-read-if2 c = search needs
 
 text-requires : tie.Need-text-requires
-text-requires c κs = (c .before .before .before .before .pre .0, c .before .before .before .before .pre .1 .inside, c .if2 .taken, omega (arith, c .before .before .before .before .pre .2, c .before .before .if1 .left))
+text-requires c κs =
+    let pre = c .before .before .before .before .pre in
+    (pre .0, pre .1 .inside, c .if2 .taken, omega (arith, pre .2, c .before .before .if1 .left), pre .3)
 
 returns-2 : tie.Need-returns-2
 returns-2 c = c .text .ensures .turned _ (c .before .before .before .before .before .pre .1)
