@@ -24,6 +24,10 @@ spaceByte b = eqb b 0x20
 unfoldable pub inner : ℕ → Bool
 inner b = leb 0x2D b && (not (eqb b 0x5D) && not (eqb b 0x7D))
 
+-- a digit
+unfoldable pub digit : ℕ → Bool
+digit b = leb 0x30 b && leb b 0x39
+
 -- the bytes up to a string's next quote, strictly plain or not
 abbrev pub stringKind : Bool → ℕ → Bool
 stringKind true b = plain b

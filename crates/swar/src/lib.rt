@@ -2,7 +2,7 @@
 ghost use Prim.Native.Nat.{_+_, _-_, _%_, _^_, _≤_};
 ghost use mathlib.Core.Path.{_≡_};
 ghost use lib.ListN.{length};
-ghost use Rattle.swar.specs.Kinds.{plain, unquoted, blank, spaceByte, inner, stringKind};
+ghost use Rattle.swar.specs.Kinds.{plain, unquoted, blank, spaceByte, inner, digit, stringKind};
 ghost use Rattle.swar.specs.Run.{Passed, Run};
 ghost use Rattle.swar.specs.Stops.{Stops, FirstByte};
 
@@ -81,6 +81,15 @@ fn inner_stops(x: u64) -> u64
     let below = minus(x, 0x2d2d2d2d2d2d2d2d);
     let bracket = minus((x | 0x2020202020202020) ^ 0x7d7d7d7d7d7d7d7d, EACH);
     (below | bracket) & (x ^ ALL) & HIGHEST
+}
+
+// Of eight bytes, those before the first that is no digit come back as 0, and that one not.
+fn digit_stops(x: u64) -> u64
+    ensures { λ r. ⌜ Stops digit x r ⌝ }
+{
+    let below = minus(x, 0x3030303030303030);
+    let above = minus(0x3939393939393939, x);
+    (below | above) & HIGHEST
 }
 
 // Of eight bytes, those before the first that is not of the kind come back as 0, and that one not.
@@ -233,6 +242,21 @@ pub fn inner_run(s: &[u8], at: usize) -> usize
         let w = inner_stops(bits::load8(s, i));
         if w != 0 {
             return i + zero_bytes(w);
+        }
+        i += 8;
+    }
+    i
+}
+
+// A place from `at` on up to which there are digits: as many times eight as stand there.
+pub fn digit_words(s: &[u8], at: usize) -> usize
+    requires { ⌜ at ≤ length (now s) ⌝ }
+    ensures { λ r. ⌜ Passed digit (now (s .entry)) at r ⌝ }
+{
+    let mut i = at;
+    while s.len() - i >= 8 {
+        if digit_stops(bits::load8(s, i)) != 0 {
+            return i;
         }
         i += 8;
     }

@@ -1,7 +1,7 @@
 -- Numbers (RFC 8259 §6) as the record grammar's machine takes them.
 use mathlib.Core.Path.{_≡_, refl, ap, sym, _∙_}
 use mathlib.Core.List.{List, [], _∷_, _++_, append-assoc}
-use mathlib.Core.Bool.{Bool, true, false, _&&_}
+use mathlib.Core.Bool.{Bool, true, false}
 use mathlib.Core.Logic.{_⊎_, inl, inr}
 use mathlib.Core.Option.{Option, some, none}
 use Prim.Native.Nat.{ℕ, _+_, _≤_, _<_}
@@ -11,6 +11,7 @@ use lib.ListN.{length, getD}
 use borrow.Author.Tests.{leb-true, leb-false}
 use Rattle.encoding.specs.BytesLaws.{beneath, beyond}
 use Rattle.encoding.specs.BytesLaws as BytesLaws
+use Rattle.swar.specs.Kinds.{digit}
 use Rattle.swar.specs.Run.{Passed, Run}
 use Rattle.json.specs.Grammar.{Kind, array}
 use Rattle.json.specs.Room.{Room, endless}
@@ -18,10 +19,6 @@ use Rattle.json.specs.Machine.{Ctl, item, after, afterMinus, afterZero, inInt, 
 use Rattle.json.specs.Steps.{Picks, inside, past, nowhere, landing, step-range, step-by, step-over}
 use Rattle.validate.specs.Among.{never, Among, this, other, no-more, AmongAt, byte, nothing, missed, each, among-picks, among-past, among-within}
 use Rattle.json.specs.Led.{Led, led-here, led-go, led-die, led-end, led-over, led-same, led-skip, led-on}
-
--- a digit
-unfoldable pub digit : ℕ → Bool
-digit b = leb 0x30 b && leb b 0x39
 
 -- a byte that is none
 pub data NoDigit (b : ℕ) : Type 0 where

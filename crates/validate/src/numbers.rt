@@ -3,11 +3,12 @@ ghost use Prim.Native.Nat.{_≤_};
 ghost use mathlib.Core.Bool.{true};
 ghost use mathlib.Core.List.{[], _∷_};
 ghost use lib.ListN.{length};
+ghost use Rattle.swar.specs.Kinds.{digit};
 ghost use Rattle.swar.specs.Run.{Run};
 ghost use Rattle.json.specs.Machine.{after, afterE, afterSign};
 ghost use Rattle.json.specs.Led.{Led};
 ghost use Rattle.validate.specs.Among.{Among};
-ghost use Rattle.validate.specs.Numbers.{digit, Exponent, Fraction, Number, WholePart};
+ghost use Rattle.validate.specs.Numbers.{Exponent, Fraction, Number, WholePart};
 use crate::words;
 use encoding::Scan;
 
@@ -41,6 +42,15 @@ fn digits_end(s: &[u8], from: usize) -> usize
         i += 1;
     }
     i
+}
+
+// The place after the digits that stand from `from` on, of which there may be many.
+fn many_digits_end(s: &[u8], from: usize) -> usize
+    requires { ⌜ from ≤ length (now s) ⌝ }
+    ensures { λ r. ⌜ Run digit (now (s .entry)) from r ⌝ }
+{
+    let left = swar::digit_words(s, from);
+    digits_end(s, left)
 }
 
 // The place after the sign that stands at `at`, or `at` where none does.
@@ -112,7 +122,7 @@ fn fraction_end(s: &[u8], at: usize) -> Scan
         return Scan { ok: true, at };
     }
     let first = at + 1;
-    let end = digits_end(s, first);
+    let end = many_digits_end(s, first);
     if end == first {
         return Scan {
             ok: false,

@@ -3,9 +3,10 @@
 use Prim.Native.Nat.{_-_}
 use native.Mathlib.Omega.{arith}
 use lib.ListN.{length}
+use Rattle.swar.specs.Kinds.{digit}
 use Rattle.swar.specs.Run.{Passed}
 use Rattle.swar.specs.Passing.{at-start, one-more, ends-at, ends-all}
-use Rattle.validate.specs.Numbers.{digit, under, over, digit-holds, digit-fails}
+use Rattle.validate.specs.Numbers.{under, over, digit-holds, digit-fails}
 use borrow.Author.Needs.{needs}
 use Rattle.validate.proofs.numbers.digits_end.Statement.{statement}
 use Rattle.validate.proofs.numbers.digits_end.Tie as tie

@@ -14,15 +14,15 @@ returns c = fraction-none (c .before .before .before .pre) (c .before .byte-at .
 add-first : tie.Need-add-first
 add-first c = search needs
 
-digits-end-requires : tie.Need-digits-end-requires
-digits-end-requires c κs = point-within (c .before .before .before .pre) (c .before .byte-at .ensures) (not-false _ (c .if1 .left))
+many-digits-end-requires : tie.Need-many-digits-end-requires
+many-digits-end-requires c κs = point-within (c .before .before .before .pre) (c .before .byte-at .ensures) (not-false _ (c .if1 .left))
 
 returns-2 : tie.Need-returns-2
-returns-2 c = fraction-empty (c .before .before .before .before .before .pre) (c .before .before .before .byte-at .ensures) (not-false _ (c .before .before .if1 .left)) (c .before .digits-end .ensures) (c .if2 .taken)
+returns-2 c = fraction-empty (c .before .before .before .before .before .pre) (c .before .before .before .byte-at .ensures) (not-false _ (c .before .before .if1 .left)) (c .before .many-digits-end .ensures) (c .if2 .taken)
 
 returns-3 : tie.Need-returns-3
-returns-3 c = fraction-some (c .before .before .before .before .before .pre) (c .before .before .before .byte-at .ensures) (not-false _ (c .before .before .if1 .left)) (c .before .digits-end .ensures) (c .if2 .left)
+returns-3 c = fraction-some (c .before .before .before .before .before .pre) (c .before .before .before .byte-at .ensures) (not-false _ (c .before .before .if1 .left)) (c .before .many-digits-end .ensures) (c .if2 .left)
 
 pub fraction-end-spec : {M : Type 1} → statement M
 fraction-end-spec =
-    tie.close (tie.spec byte-at-requires returns add-first digits-end-requires returns-2 returns-3)
+    tie.close (tie.spec byte-at-requires returns add-first many-digits-end-requires returns-2 returns-3)
