@@ -31,7 +31,7 @@ const ESCAPE: u64 = 54;
 const STATE: u64 = 63;
 
 // The bytes of a text for which a table is worth its making.
-const LONG: usize = 4096;
+const LONG: usize = 1024;
 
 // Adds the move that the bytes from `low` to `high` make from one state to another.
 fn add_move(table: &mut [u64; 256], low: u8, high: u8, from: u64, to: u64)
@@ -154,11 +154,15 @@ fn last_characters(table: &[u64; 256], s: &[u8], at: usize) -> usize
     end
 }
 
-// The place after the last character to which the moves lead from `at` on: four bytes at a time up to where they lead nowhere.
+// The place after the last character to which the moves lead from `at` on: four bytes at a time up to where they lead nowhere. In a short
+// text, whose table has no moves, they are not asked.
 pub fn characters_end(table: &[u64; 256], s: &[u8], at: usize) -> usize
     requires { ⌜ Leads (now table) × (at ≤ length (now s)) ⌝ }
     ensures { λ r. ⌜ Characters (now (s .entry)) at r ⌝ }
 {
+    if s.len() < LONG {
+        return at;
+    }
     let mut end = at;
     let mut i = at;
     let mut state = BETWEEN;

@@ -4,7 +4,7 @@ use mathlib.Core.Bool.{true}
 use Prim.Native.Nat.{_-_}
 use native.Mathlib.Omega.{arith}
 use lib.ListN.{length}
-use Rattle.validate.specs.MoveLaws.{Reader, reader-start, reader-on, reader-between, characters-then}
+use Rattle.validate.specs.MoveLaws.{Reader, reader-start, reader-on, reader-between, characters-none, characters-then}
 use borrow.Author.Needs.{needs}
 use Rattle.validate.proofs.moves.characters_end.Statement.{statement}
 use Rattle.validate.proofs.moves.characters_end.Tie as tie
@@ -15,8 +15,11 @@ Inv-loop table s at end₀ i₀ state₀ end i state = Reader s at end i state
 abbrev μ-loop : tie.MeasureT-loop
 μ-loop table s at end₀ i₀ state₀ end i state = length s - i
 
+returns : tie.Need-returns Inv-loop μ-loop
+returns c = characters-none (omega (arith, c .before .before .pre .1))
+
 loop-holds : tie.Need-loop-holds Inv-loop μ-loop
-loop-holds c = reader-start (c .before .pre .1)
+loop-holds c = reader-start (omega (arith, c .before .before .pre .1))
 
 sub-loop : tie.Need-sub-loop Inv-loop μ-loop
 sub-loop c = c .loop .inv .within
@@ -24,13 +27,13 @@ sub-loop c = c .loop .inv .within
 follow-four-requires : tie.Need-follow-four-requires Inv-loop μ-loop
 follow-four-requires c κs =
     let inv = c .before .loop .inv in
-    (c .before .before .before .pre .0, omega (arith, inv .within, c .loop-test .taken), inv .small)
+    (c .before .before .before .before .pre .0, omega (arith, inv .within, c .loop-test .taken), inv .small)
 
 last-characters-requires : tie.Need-last-characters-requires Inv-loop μ-loop
-last-characters-requires c κs = (c .before .before .before .before .before .pre .0, c .before .before .before .loop .inv .whole .led true .within)
+last-characters-requires c κs = (c .before .before .before .before .before .before .pre .0, c .before .before .before .loop .inv .whole .led true .within)
 
-returns : tie.Need-returns Inv-loop μ-loop
-returns c = characters-then (c .before .before .before .before .loop .inv .whole) (c .last-characters .ensures)
+returns-2 : tie.Need-returns-2 Inv-loop μ-loop
+returns-2 c = characters-then (c .before .before .before .before .loop .inv .whole) (c .last-characters .ensures)
 
 add-i : tie.Need-add-i Inv-loop μ-loop
 add-i c = search needs
@@ -42,7 +45,7 @@ loop-again : tie.Need-loop-again Inv-loop μ-loop
 loop-again c =
     let inv = c .before .before .before .before .loop .inv in
     reader-between inv (omega (arith, inv .within, c .before .before .before .loop-test .taken)) (c .before .before .follow-four .ensures)
-    (c .if2 .taken)
+    (c .if3 .taken)
 
 loop-less-2 : tie.Need-loop-less-2 Inv-loop μ-loop
 loop-less-2 c = search needs
@@ -53,10 +56,10 @@ loop-again-2 c =
     reader-on inv (omega (arith, inv .within, c .before .before .before .loop-test .taken)) (c .before .before .follow-four .ensures)
 
 last-characters-requires-2 : tie.Need-last-characters-requires-2 Inv-loop μ-loop
-last-characters-requires-2 c κs = (c .before .before .before .pre .0, c .before .loop .inv .whole .led true .within)
+last-characters-requires-2 c κs = (c .before .before .before .before .pre .0, c .before .loop .inv .whole .led true .within)
 
-returns-2 : tie.Need-returns-2 Inv-loop μ-loop
-returns-2 c = characters-then (c .before .before .loop .inv .whole) (c .last-characters2 .ensures)
+returns-3 : tie.Need-returns-3 Inv-loop μ-loop
+returns-3 c = characters-then (c .before .before .loop .inv .whole) (c .last-characters2 .ensures)
 
 pub characters-end-spec : {M : Type 1} → statement M
 characters-end-spec =
@@ -64,15 +67,16 @@ characters-end-spec =
     (tie.spec
     Inv-loop
     μ-loop
+    returns
     loop-holds
     sub-loop
     follow-four-requires
     last-characters-requires
-    returns
+    returns-2
     add-i
     loop-less
     loop-again
     loop-less-2
     loop-again-2
     last-characters-requires-2
-    returns-2)
+    returns-3)
