@@ -236,7 +236,3 @@ module _ {a b n left level : ℕ} (v : Counting a b n left level) where
         let z : level ≡ suc (level - 1) = omega (arith, v .some) in
         counting-on c (omega (arith, v .some)) (omega arith)
         (depth-less (λ j. bit j a) (λ j. bit j b) n i (level - 1) h (closes h) (level-before ∙ z))
-
--- a block without brackets
-pub passed-none : {a b n : ℕ} → bitOr a b ≡ 0 → 1 ≤ n → Finds a b n 64 n
-passed-none {a} {b} {n} z h = counting-none (counting-starts (omega arith) h) z

@@ -125,18 +125,12 @@ fn find_closing(opening: u64, closing: u64, depth: usize) -> Found
     }
 }
 
-// The same; a block that has no bracket, or fewer closing brackets than are open, is passed whole.
+// The same; a block that has fewer closing brackets than are open is passed whole.
 fn pass_block(opening: u64, closing: u64, depth: usize) -> Found
     requires { ⌜ (1 ≤ depth) × (depth ≤ 100000000) ⌝ }
     requires { ⌜ Apart opening closing ⌝ }
     ensures { λ r. ⌜ Finds opening closing depth (r .place) (r .depth) ⌝ }
 {
-    if opening | closing == 0 {
-        return Found {
-            place: BLOCK,
-            depth: depth,
-        };
-    }
     let closed = count(closing);
     if closed < depth {
         return Found {
