@@ -2,7 +2,7 @@
 use mathlib.Core.Path.{_≡_, refl, sym, ap, ap₂, _∙_}
 use mathlib.Core.Bool.{Bool, true, false, _&&_, _||_, or-false, and-true, and-false}
 use mathlib.Core.List.{List}
-use mathlib.Core.Logic.{_⊎_, ⊎-elim}
+use mathlib.Core.Logic.{⊎-elim}
 use Prim.Native.Nat.{ℕ, _+_, _-_, _/_, _^_, _<_, _≤_}
 use native.Mathlib.Omega.{arith}
 use borrow.Author.Tests.{lt-ltb, le-ltb, eq-eqb, ne-eqb, eqb-true, eqb-false}
@@ -10,8 +10,8 @@ use lib.Bits.{bitAnd}
 use lib.Dec.{ltb, eqb}
 use lib.ListN.{getD}
 use lib.Seq.{slice}
-use Rattle.bits.specs.Bits.{bit}
-use Rattle.bits.specs.Laws.{lt-or-ge, bit-zero, bit-test}
+use Rattle.bits.specs.Bits.{bit, Lowest}
+use Rattle.bits.specs.Laws.{lt-or-ge, bit-zero, bit-test, bit-shr}
 use Rattle.marks.specs.Advances.{namedHit}
 use Rattle.query.specs.declared.compiled.Compiled.{Compiled}
 use Rattle.select.specs.Ways.{sameName, frameIf}
@@ -40,36 +40,56 @@ module _ (q : List ℕ) (c : Compiled) (m : ℕ) (name : List ℕ) (i x : ℕ) (
       (ap (λ (b : Bool). b && sameName (slice (getD (c .starts) i 0) (getD (c .ends) i 0) q) name)
       (sym (bit-test m i) ∙ ap (λ (y : ℕ). eqb y 1) (sym shift) ∙ eq-eqb x 1 f))
 
--- the bits below i are what f says, and no others
+-- the bits below i are what f says of the steps, and none is on from i
 pub record Upto (f : ℕ → Bool) (count h i : ℕ) : Type 0 where
-  pub within : i ≤ count
-  pub below : (j : ℕ) → bit j h ≡ (ltb j i && f j)
+  pub below : (j : ℕ) → j < i → bit j h ≡ (ltb j count && f j)
+  pub above : (j : ℕ) → i ≤ j → bit j h ≡ false
 
-pub upto-none : (f : ℕ → Bool) (count : ℕ) → Upto f count 0 0
-upto-none f count = record { within = omega arith; below = λ j. bit-zero j ∙ sym (ap (λ (b : Bool). b && f j) (le-ltb j 0 (omega arith))) }
+module _ (f : ℕ → Bool) (count : ℕ) where
+  -- at first, where f is off below i
+  pub upto-none : (i : ℕ) → ((j : ℕ) → j < i → f j ≡ false) → Upto f count 0 i
+  upto-none i off =
+      record {
+        below = λ j l. bit-zero j ∙ sym (ap (λ (b : Bool). ltb j count && b) (off j l) ∙ and-false (ltb j count));
+        above = λ j l. bit-zero j;
+      }
 
-pub upto-more : (f : ℕ → Bool) (count h i h′ : ℕ) (on : Bool) → i < count → Upto f count h i → on ≡ f i
-    → ((j : ℕ) → bit j h′ ≡ (bit j h || (on && eqb j i))) → Upto f count h′ (i + 1)
-upto-more f count h i h′ on l u e b =
-    record { within = omega arith; below = λ j. b j ∙ ap (λ (z : Bool). z || (on && eqb j i)) (u .below j) ∙ go j (eqb j i) refl }
-  where
-    go : (j : ℕ) (z : Bool) → eqb j i ≡ z → ((ltb j i && f j) || (on && z)) ≡ (ltb j (i + 1) && f j)
-    go j true g =
-        let same : j ≡ i = eqb-true j i g in
-        ap₂ (λ (a d : Bool). (a && f j) || (d && true)) (le-ltb j i (omega arith)) (e ∙ ap f (sym same))
-        ∙ and-true (f j)
-        ∙ sym (ap (λ (a : Bool). a && f j) (lt-ltb j (i + 1) (omega arith)))
-    go j false g =
-        let other : j ≡ i → ⊥ = eqb-false j i g in
-        ap (λ (d : Bool). (ltb j i && f j) || d) (and-false on)
-        ∙ or-false (ltb j i && f j)
-        ∙ ap (λ (a : Bool). a && f j) (below-same j other)
-      where
-        below-same : (j : ℕ) → (j ≡ i → ⊥) → ltb j i ≡ ltb j (i + 1)
-        below-same j other = ⊎-elim
-            (λ (k : j < i). lt-ltb j i k ∙ sym (lt-ltb j (i + 1) (omega arith)))
-            (λ (k : i ≤ j). le-ltb j i k ∙ sym (le-ltb j (i + 1) (omega arith)))
-            (lt-or-ge j i)
+  pub upto-more : (h i h′ : ℕ) (on : Bool) → i < count → Upto f count h i → on ≡ f i → ((j : ℕ) → bit j h′ ≡ (bit j h || (on && eqb j i)))
+      → Upto f count h′ (i + 1)
+  upto-more h i h′ on l u e b = record { below = λ j k. b j ∙ go j k (eqb j i) refl; above = λ j k. b j ∙ past j k }
+    where
+      go : (j : ℕ) → j < i + 1 → (z : Bool) → eqb j i ≡ z → (bit j h || (on && eqb j i)) ≡ (ltb j count && f j)
+      go j k true g =
+          let same : j ≡ i = eqb-true j i g in
+          rw (g, u .above j (omega arith), lt-ltb j count (omega arith)) (and-true on ∙ e ∙ ap f (sym same))
+      go j k false g =
+          let other : j ≡ i → ⊥ = eqb-false j i g in
+          rw (g, and-false on) (or-false (bit j h) ∙ u .below j (omega arith))
 
-pub upto-all : (f : ℕ → Bool) (count h i : ℕ) → Upto f count h i → count ≤ i → (j : ℕ) → bit j h ≡ (ltb j count && f j)
-upto-all f count h i u l j = let e : i ≡ count = omega (arith, u .within) in u .below j ∙ ap (λ (k : ℕ). ltb j k && f j) e
+      past : (j : ℕ) → i + 1 ≤ j → (bit j h || (on && eqb j i)) ≡ false
+      past j k = rw (u .above j (omega arith), ne-eqb j i (λ (g : j ≡ i). omega arith)) (and-false on)
+
+  -- at last, where no step is left, or f is off from i on
+  module _ (h i : ℕ) (u : Upto f count h i) where
+    by : ((j : ℕ) → i ≤ j → (ltb j count && f j) ≡ false) → (j : ℕ) → bit j h ≡ (ltb j count && f j)
+    by off j = ⊎-elim (λ (k : j < i). u .below j k) (λ (k : i ≤ j). u .above j k ∙ sym (off j k)) (lt-or-ge j i)
+
+    pub upto-all : count ≤ i → (j : ℕ) → bit j h ≡ (ltb j count && f j)
+    upto-all l = by (λ j k. ap (λ (b : Bool). b && f j) (le-ltb j count (omega arith)))
+
+    pub upto-off : ((j : ℕ) → i ≤ j → f j ≡ false) → (j : ℕ) → bit j h ≡ (ltb j count && f j)
+    upto-off off = by (λ j k. ap (λ (b : Bool). ltb j count && b) (off j k) ∙ and-false (ltb j count))
+
+-- a step whose mark is off takes nothing: those below the lowest mark, and those from i on where no mark is left
+module _ (q : List ℕ) (c : Compiled) (m : ℕ) (name : List ℕ) where
+  off-hit : (j : ℕ) → bit j m ≡ false → namedHit q c m name j ≡ false
+  unfolding namedHit
+  off-hit j e = ap (λ (b : Bool). b && sameName (slice (getD (c .starts) j 0) (getD (c .ends) j 0) q) name) e
+
+  pub below-lowest : (i : ℕ) → Lowest 64 m i → (j : ℕ) → j < i → namedHit q c m name j ≡ false
+  below-lowest i x j l = off-hit j (x .none-below j l)
+
+  pub none-left : (i : ℕ) → m / 2 ^ i ≡ 0 → (j : ℕ) → i ≤ j → namedHit q c m name j ≡ false
+  none-left i e j l =
+      let z : i + (j - i) ≡ j = omega arith in
+      off-hit j (ap (λ (k : ℕ). bit k m) (sym z) ∙ sym (bit-shr i (j - i) m) ∙ ap (bit (j - i)) e ∙ bit-zero (j - i))

@@ -69,7 +69,7 @@ fn hit(
     takes_name(query, steps, i, record, x, y)
 }
 
-// Of the marks, those of steps whose name is the record's bytes from `x` to `y`.
+// Of the marks, those of steps whose name is the record's bytes from `x` to `y`. Steps before the first mark and after the last are not asked.
 fn named(query: &[u8], steps: Compiled, marks: u16, record: &[u8], x: usize, y: usize) -> u16
     requires { ⌜ Fits (now query) steps ⌝ }
     requires { ⌜ (x ≤ y) × (y ≤ length (now «record»)) ⌝ }
@@ -77,8 +77,11 @@ fn named(query: &[u8], steps: Compiled, marks: u16, record: &[u8], x: usize, y: 
 {
     let count = steps.count;
     let mut hits: u16 = 0;
-    let mut i: usize = 0;
+    let mut i = bits::lowest(marks as u64) as usize;
     while i < count {
+        if marks >> i == 0 {
+            return hits;
+        }
         let on = hit(query, steps, marks, i, record, x, y);
         hits = bits::with_bit(hits, i, on);
         i += 1;

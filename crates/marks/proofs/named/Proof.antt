@@ -1,9 +1,9 @@
--- The bits below i are those of the steps below i; one more with each turn. Assumes nothing.
+-- The bits below i are those of the steps below i, from the lowest mark on; one more with each turn, while a mark is left. Assumes nothing.
 use Prim.Native.Nat.{_-_}
 use native.Mathlib.Omega.{arith}
 use lib.Seq.{slice}
 use Rattle.marks.specs.Advances.{namedHit}
-use Rattle.marks.proofs.Hits.{Upto, upto-none, upto-more, upto-all}
+use Rattle.marks.proofs.Hits.{Upto, upto-none, upto-more, upto-all, upto-off, below-lowest, none-left}
 use borrow.Author.Needs.{needs}
 use Rattle.marks.proofs.named.Statement.{statement}
 use Rattle.marks.proofs.named.Tie as tie
@@ -14,8 +14,23 @@ Inv-loop query steps marks «record» x y count hits₀ i₀ hits i = Upto (name
 abbrev μ-loop : tie.MeasureT-loop
 μ-loop query steps marks «record» x y count hits₀ i₀ hits i = steps .count - i
 
+lowest-requires : tie.Need-lowest-requires Inv-loop μ-loop
+lowest-requires c κs = search needs
+
+cast-i : tie.Need-cast-i Inv-loop μ-loop
+cast-i c = search needs
+
 loop-holds : tie.Need-loop-holds Inv-loop μ-loop
-loop-holds c = upto-none _ _
+loop-holds c = upto-none _ _ _ (below-lowest _ _ _ _ _ (c .lowest .ensures))
+
+cast-if1 : tie.Need-cast-if1 Inv-loop μ-loop
+cast-if1 c = search needs
+
+shr-if1 : tie.Need-shr-if1 Inv-loop μ-loop
+shr-if1 c = search needs
+
+returns : tie.Need-returns Inv-loop μ-loop
+returns c = upto-off _ _ _ _ (c .before .before .loop .inv) (none-left _ _ _ _ _ (c .if1 .taken))
 
 hit-requires : tie.Need-hit-requires Inv-loop μ-loop
 hit-requires c κs = search needs
@@ -31,11 +46,11 @@ loop-less c = omega arith
 
 loop-again : tie.Need-loop-again Inv-loop μ-loop
 loop-again c =
-    let test = c .before .before in
+    let test = c .before .before .before in
     upto-more _ _ _ _ _ _ (test .loop-test .taken) (test .before .loop .inv) (c .before .hit .ensures) (c .with-bit .ensures)
 
-returns : tie.Need-returns Inv-loop μ-loop
-returns c = upto-all _ _ _ _ (c .before .loop .inv) (c .loop-test .left)
+returns-2 : tie.Need-returns-2 Inv-loop μ-loop
+returns-2 c = upto-all _ _ _ _ (c .before .loop .inv) (c .loop-test .left)
 
 pub named-spec : {M : Type 1} → statement M
 named-spec =
@@ -43,10 +58,15 @@ named-spec =
     (tie.spec
     Inv-loop
     μ-loop
+    lowest-requires
+    cast-i
     loop-holds
+    cast-if1
+    shr-if1
+    returns
     hit-requires
     with-bit-requires
     add-i
     loop-less
     loop-again
-    returns)
+    returns-2)
