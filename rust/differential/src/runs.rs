@@ -18,6 +18,10 @@ pub fn random(comparison: &mut Comparison, seed: u64, cases: u64) -> Result<(), 
         let shift = random.below(9);
         let mut buffer = vec![b'"'; shift];
         buffer.extend(cases::record(&mut random, names));
+        // A text from 1,024 bytes on has a table of moves for its strings: blanks make some as long.
+        if random.once_in(4) {
+            buffer.resize(buffer.len() + 1_024, b' ');
+        }
         let record = &buffer[shift..];
         comparison.lists(&mut random, &query, record)?;
         for offset in offsets(&mut random, record) {
