@@ -11,7 +11,6 @@ use mir.Val.{boolByte}
 use Rattle.bits.specs.Bits.{on, bit, digit}
 use Rattle.bits.specs.Laws.{bit-and, bit-or, bit-xor, bit-not, bit-mod, bit-zero, bit-shl, shifted, shifted-same, majority, carry, carry-same, bit-add}
 use Rattle.bits.specs.Truth.{truth, beq→eq, allBelow, all-at}
-use Rattle.blocks.specs.Laws.{or-parts}
 use Rattle.blocks.specs.Parts.{oddRun}
 
 even : ℕ → Bool
@@ -146,14 +145,3 @@ module _ (backslashes : ℕ) (odd : Bool) where
       ∙ ap₂ xor (bit-xor i sum evens ∙ ap₂ xor (ap (bit i) e ∙ sum-bit i l) (evens-bit i l))
       (bit-or i backslashes (boolByte odd) ∙ ap (λ (x : Bool). bit i backslashes || x) (first-bit odd i))
       ∙ method at odd i
-
-  -- with no backslash and no run before there is nothing to add up
-  module _ (none : bitOr backslashes (boolByte odd) ≡ 0) where
-    off : (i : ℕ) → (at i ≡ false) × (first odd i ≡ false)
-    off i = or-parts (at i) (first odd i)
-        (sym (bit-or i backslashes (boolByte odd) ∙ ap (λ (x : Bool). at i || x) (first-bit odd i)) ∙ ap (bit i) none ∙ bit-zero i)
-
-    pub escaped-none : (i : ℕ) → bit i 0 ≡ oddRun odd (λ j. bit j backslashes) i
-    unfolding oddRun first
-    escaped-none zero = bit-zero 0 ∙ sym (off 0 .1)
-    escaped-none (suc i) = bit-zero (suc i) ∙ sym (ap (λ (x : Bool). x && not (oddRun odd at i)) (off i .0))

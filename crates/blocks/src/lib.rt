@@ -92,14 +92,10 @@ fn prefix_xor(x: u64) -> u64
 }
 
 // Bit i is on where an odd run of backslashes stands just before place i: the carries of one sum say which runs are odd.
-// Most blocks have no run, and need no sum.
 fn escaped(backslashes: u64, odd: bool) -> u64
     ensures { λ r. ⌜ ((i : ℕ) → i < 64 → bit i r ≡ oddRun odd (λ j. bit j backslashes) i) ⌝ }
 {
     let first = odd as u64;
-    if backslashes | first == 0 {
-        return 0;
-    }
     let own = backslashes & (first ^ ALL);
     let starts = ((own << 1) ^ ALL) & EVEN;
     let sum = std::num::wrapping_add_u64(starts, own);
