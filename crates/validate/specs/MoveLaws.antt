@@ -21,7 +21,7 @@ use Rattle.json.specs.Steps.{landing, step-range}
 use Rattle.json.specs.Led.{Led, led-here, led-go, led-on}
 use Rattle.validate.specs.Moves.{Stand, between, escape, point, inside, stateOf, Goes, Move, move, orIf, joined, withMove, MoveAdded, Added}
 use Rattle.validate.specs.Moves.{plainMoves, escapeMoves, afterSecond, RowAdded, pointMoves}
-use Rattle.validate.specs.Moves.{Followed, went, Leads, Follows, Arrived, came, Onward, Characters}
+use Rattle.validate.specs.Moves.{Followed, went, Leads, Follows, Arrived, came, Characters, Reader, Passes}
 use Rattle.validate.specs.Moves as M
 
 -- adding one move, and some after others
@@ -248,45 +248,17 @@ leads-follows {t} l b state h =
       somewhere = λ p e. subst (λ n. Followed p b (bitAnd (getD t b 0 / 2 ^ n) 63)) (sym e) (l .somewhere p b h);
     }
 
--- a byte at a place, and one stretch after another
-pub onward-one : {s : List ℕ} {i state r : ℕ} → i < length s → Follows (getD s i 0) state r → Onward s i (i + 1) state r
-onward-one {s} {i} {state} {r} h x = record { small = x .small; nowhere = x .nowhere; somewhere = λ p e. by p (x .somewhere p e) }
+-- a byte at a place
+arrived-on : {s : List ℕ} {i j a b : ℕ} → Arrived s i j a → j < length s → Follows (getD s j 0) a b → Arrived s i (j + 1) b
+arrived-on {s} {i} {j} M.lost h x = subst (Arrived s i (j + 1)) (sym (x .nowhere refl)) M.lost
+arrived-on {s} {i} {j} (came p l) h x = by (x .somewhere p refl)
   where
-    by : (p : Stand) {n : ℕ} → Followed p (getD s i 0) n → Arrived s p i (i + 1) n
-    by p M.lost = M.lost
-    by p (went q g) = came q (λ f. led-go (led-here s i (inside p f) (omega arith)) (inside q f) h (g f))
-
-pub arrived-on : {s : List ℕ} {p : Stand} {i j k a b : ℕ} → Arrived s p i j a → Onward s j k a b → Arrived s p i k b
-arrived-on {s} {p} {i} {k = k} M.lost x = subst (Arrived s p i k) (sym (x .nowhere refl)) M.lost
-arrived-on {s} {p} {i} {j} {k} (came q l) x = by (x .somewhere q refl)
-  where
-    by : {n : ℕ} → Arrived s q j k n → Arrived s p i k n
+    by : {n : ℕ} → Followed p (getD s j 0) n → Arrived s i (j + 1) n
     by M.lost = M.lost
-    by (came r m) = came r (λ f. led-on (l f) (m f))
-
-pub onward-then : {s : List ℕ} {i j k a b c : ℕ} → Onward s i j a b → Onward s j k b c → Onward s i k a c
-onward-then x y =
-    record {
-      small = y .small;
-      nowhere = λ e. y .nowhere (x .nowhere e);
-      somewhere = λ p e. arrived-on (x .somewhere p e) y;
-    }
-
-pub onward-four : {s : List ℕ} {i a b c d e : ℕ} → i + 4 ≤ length s
-    → Follows (getD s i 0) a b → Follows (getD s (i + 1) 0) b c → Follows (getD s (i + 2) 0) c d → Follows (getD s (i + 3) 0) d e
-    → Onward s i (i + 4) a e
-onward-four {s} {i} {a} {b} {c} {d} {e} h w x y z =
-    onward-then (onward-one (omega arith) w)
-    (onward-then (at-place 1 (omega arith) x) (onward-then (at-place 2 (omega arith) y) (at-place 3 (omega arith) z)))
-  where
-    at-place : (n : ℕ) → i + n < length s → {p q : ℕ} → Follows (getD s (i + n) 0) p q → Onward s (i + n) (i + (n + 1)) p q
-    at-place n l {p} {q} f = let k : i + n + 1 ≡ i + (n + 1) = omega arith in subst (λ j. Onward s (i + n) j p q) k (onward-one l f)
-
-pub arrived-start : {s : List ℕ} {i : ℕ} → i ≤ length s → Arrived s between i i 6
-arrived-start {s} {i} h = came between (λ f. led-here s i (inString f) h)
+    by (went q g) = came q (λ f. led-go (l f) (inside q f) h (g f))
 
 -- between two characters the machine has read whole ones
-pub arrived-between : {s : List ℕ} {i j r : ℕ} → Arrived s between i j r → r ≡ 6 → Characters s i j
+arrived-between : {s : List ℕ} {i j r : ℕ} → Arrived s i j r → r ≡ 6 → Characters s i j
 arrived-between {s} {i} {j} M.lost e = absurd (omega arith)
 arrived-between {s} {i} {j} (came q l) e =
     record { led = subst (λ p. (f : Bool) → Led s i (inString f) (inside p f) true j) (same-stand q between e) l }
@@ -297,24 +269,37 @@ characters-none {s} {i} h = record { led = λ f. led-here s i (inString f) h }
 pub characters-then : {s : List ℕ} {i j k : ℕ} → Characters s i j → Characters s j k → Characters s i k
 characters-then x y = record { led = λ f. led-on (x .led f) (y .led f) }
 
--- a reader in the state at place i, which began at place a, and has read whole characters up to place e
-pub record Reader (s : List ℕ) (a e i state : ℕ) : Type 0 where
-  pub small : state < 64
-  pub within : i ≤ length s
-  pub whole : Characters s a e
-  pub arrived : Arrived s between a i state
+-- a reader at its start
+pub reader-start : {s : List ℕ} {a : ℕ} → a ≤ length s → Reader s a a 6 a
+reader-start {s} {a} h =
+    record { small = omega arith; within = h; whole = characters-none h; arrived = came between (λ f. led-here s a (inString f) h) }
 
-pub reader-start : {s : List ℕ} {a : ℕ} → a ≤ length s → Reader s a a a 6
-reader-start h = record { small = omega arith; within = h; whole = characters-none h; arrived = arrived-start h }
+-- by a byte: the end stays, or is after the byte where it ends a character
+module _ {s : List ℕ} {i state e r : ℕ} (h : i < length s) (y : Follows (getD s i 0) state r) where
+  pub passes-inside : Passes s i state e r e
+  passes-inside =
+      record {
+        small = y .small;
+        on = λ a x. record { small = y .small; within = omega arith; whole = x .whole; arrived = arrived-on (x .arrived) h y };
+      }
 
-module _ {s : List ℕ} {a e i j state r : ℕ} (x : Reader s a e i state) (h : j ≤ length s) (y : Onward s i j state r) where
-  pub reader-on : Reader s a e j r
-  reader-on = record { small = y .small; within = h; whole = x .whole; arrived = arrived-on (x .arrived) y }
+  pub passes-between : r ≡ 6 → Passes s i state e r (i + 1)
+  passes-between q =
+      record {
+        small = y .small;
+        on = λ a x.
+            let now = arrived-on (x .arrived) h y in
+            record { small = y .small; within = omega arith; whole = arrived-between now q; arrived = now };
+      }
 
-  pub reader-between : r ≡ 6 → Reader s a j j r
-  reader-between q =
-      let now = arrived-on (x .arrived) y in
-      record { small = y .small; within = h; whole = arrived-between now q; arrived = now }
+-- and by four
+pub passes-four : {s : List ℕ} {a i p₀ p₁ p₂ p₃ p₄ e₀ e₁ e₂ e₃ e₄ : ℕ} → Reader s a i p₀ e₀
+    → Passes s i p₀ e₀ p₁ e₁ → Passes s (i + 1) p₁ e₁ p₂ e₂ → Passes s (i + 2) p₂ e₂ p₃ e₃ → Passes s (i + 3) p₃ e₃ p₄ e₄
+    → Reader s a (i + 4) p₄ e₄
+passes-four {s} {a} {i} r w x y z = at-place 3 z (at-place 2 y (at-place 1 x (w .on a r)))
+  where
+    at-place : (n : ℕ) {p e q f : ℕ} → Passes s (i + n) p e q f → Reader s a (i + n) p e → Reader s a (i + (n + 1)) q f
+    at-place n {p} {e} {q} {f} x r = let k : i + n + 1 ≡ i + (n + 1) = omega arith in subst (λ j. Reader s a j q f) k (x .on a r)
 
 -- a move on its way into a table: the word w has been added to those of the bytes from low to before b
 pub record Adding (low end w b : ℕ) (t t′ : List ℕ) : Type 0 where

@@ -3,7 +3,7 @@
 use mathlib.Core.Path.{_≡_}
 use mathlib.Core.List.{List, [], _∷_, _++_}
 use mathlib.Core.Bool.{Bool, true, false, _&&_}
-use Prim.Native.Nat.{ℕ, _*_, _/_, _%_, _^_, _<_}
+use Prim.Native.Nat.{ℕ, _+_, _*_, _/_, _%_, _^_, _≤_, _<_}
 use lib.Bits.{bitAnd, bitOr}
 use lib.Dec.{leb, eqb}
 use lib.ListN.{length, getD}
@@ -125,17 +125,23 @@ pub record Follows (b state r : ℕ) : Type 0 where
   pub nowhere : state ≡ 0 → r ≡ 0
   pub somewhere : (p : Stand) → state ≡ stateOf p → Followed p b r
 
--- the state at place j of s, after the stand p at place i: nowhere, or that of a stand to which the machine has come
-pub data Arrived (s : List ℕ) (p : Stand) (i j : ℕ) : ℕ → Type 0 where
-  lost : Arrived s p i j 0
-  came : (q : Stand) → ((f : Bool) → Led s i (inside p f) (inside q f) true j) → Arrived s p i j (stateOf q)
-
--- r is the state at place j after a state at place i
-pub record Onward (s : List ℕ) (i j state r : ℕ) : Type 0 where
-  pub small : r < 64
-  pub nowhere : state ≡ 0 → r ≡ 0
-  pub somewhere : (p : Stand) → state ≡ stateOf p → Arrived s p i j r
+-- the state at place j of s, after a stand between two characters at place i: nowhere, or that of a stand to which the machine has come
+pub data Arrived (s : List ℕ) (i j : ℕ) : ℕ → Type 0 where
+  lost : Arrived s i j 0
+  came : (q : Stand) → ((f : Bool) → Led s i (inString f) (inside q f) true j) → Arrived s i j (stateOf q)
 
 -- from place i to place r there are whole characters
 pub record Characters (s : List ℕ) (i r : ℕ) : Type 0 where
   pub led : (f : Bool) → Led s i (inString f) (inString f) true r
+
+-- a reader in the state at place i, which began at place a, and has read whole characters up to place e
+pub record Reader (s : List ℕ) (a i state e : ℕ) : Type 0 where
+  pub small : state < 64
+  pub within : i ≤ length s
+  pub whole : Characters s a e
+  pub arrived : Arrived s a i state
+
+-- the byte at place i takes each reader, wherever it began, from one state and end to others
+pub record Passes (s : List ℕ) (i state e state′ e′ : ℕ) : Type 0 where
+  pub small : state′ < 64
+  pub on : (a : ℕ) → Reader s a i state e → Reader s a (i + 1) state′ e′

@@ -1,9 +1,9 @@
 // Characters of a string by a table of moves: the word of a byte has six bits for each state, which say where the byte leads from there.
 ghost use mathlib.Core.Path.{_≡_};
-ghost use Prim.Native.Nat.{_+_, _≤_, _<_};
+ghost use Prim.Native.Nat.{_≤_, _<_};
 ghost use lib.ListN.{length};
 ghost use Rattle.encoding.specs.RowTable.{RowTable};
-ghost use Rattle.validate.specs.Moves.{MoveAdded, Added, plainMoves, escapeMoves, RowAdded, pointMoves, Leads, Follows, Onward, Characters};
+ghost use Rattle.validate.specs.Moves.{MoveAdded, Added, plainMoves, escapeMoves, RowAdded, pointMoves, Leads, Follows, Passes, Characters};
 
 // The states, by the first of their bits in a word: nowhere, and between two characters; with one, two or three bytes from 80 to BF due;
 // after a first byte whose second byte has bounds of its own; after a backslash.
@@ -32,6 +32,12 @@ const STATE: u64 = 63;
 
 // The bytes of a text for which a table is worth its making.
 const LONG: usize = 1024;
+
+// Where a reader of a string stands: its state, and the place after the last whole character.
+struct Reader {
+    state: u64,
+    end: usize,
+}
 
 // Adds the move that the bytes from `low` to `high` make from one state to another.
 fn add_move(table: &mut [u64; 256], low: u8, high: u8, from: u64, to: u64)
@@ -122,15 +128,19 @@ fn follow(table: &[u64; 256], b: u8, state: u64) -> u64
     table[b as usize] >> state & STATE
 }
 
-// The state after the four bytes from `i` on.
-fn follow_four(table: &[u64; 256], s: &[u8], i: usize, state: u64) -> u64
-    requires { ⌜ Leads (now table) × (i + 4 ≤ length (now s)) × (state < 64) ⌝ }
-    ensures { λ r. ⌜ Onward (now (s .entry)) i (i + 4) state r ⌝ }
+// The reader after the byte at `i`.
+fn pass(table: &[u64; 256], s: &[u8], i: usize, before: Reader) -> Reader
+    requires { ⌜ Leads (now table) × (i < length (now s)) × (before .state < 64) ⌝ }
+    ensures { λ r. ⌜ Passes (now (s .entry)) i (before .state) (before .end) (r .state) (r .end) ⌝ }
 {
-    let one = follow(table, s[i], state);
-    let two = follow(table, s[i + 1], one);
-    let three = follow(table, s[i + 2], two);
-    follow(table, s[i + 3], three)
+    let state = follow(table, s[i], before.state);
+    if state == BETWEEN {
+        return Reader { state, end: i + 1 };
+    }
+    Reader {
+        state,
+        end: before.end,
+    }
 }
 
 // The place after the last character to which the moves lead from `at` on, byte by byte.
@@ -138,24 +148,23 @@ fn last_characters(table: &[u64; 256], s: &[u8], at: usize) -> usize
     requires { ⌜ Leads (now table) × (at ≤ length (now s)) ⌝ }
     ensures { λ r. ⌜ Characters (now (s .entry)) at r ⌝ }
 {
-    let mut end = at;
     let mut i = at;
-    let mut state = BETWEEN;
+    let mut reader = Reader {
+        state: BETWEEN,
+        end: at,
+    };
     while i < s.len() {
-        state = follow(table, s[i], state);
-        if state == NOWHERE {
-            return end;
+        reader = pass(table, s, i, reader);
+        if reader.state == NOWHERE {
+            return reader.end;
         }
         i += 1;
-        if state == BETWEEN {
-            end = i;
-        }
     }
-    end
+    reader.end
 }
 
-// The place after the last character to which the moves lead from `at` on: four bytes at a time up to where they lead nowhere. In a short
-// text, whose table has no moves, they are not asked.
+// The place after the last character to which the moves lead from `at` on: four bytes at a time up to where they lead nowhere, and the
+// last bytes of the text one at a time. In a short text, whose table has no moves, they are not asked.
 pub fn characters_end(table: &[u64; 256], s: &[u8], at: usize) -> usize
     requires { ⌜ Leads (now table) × (at ≤ length (now s)) ⌝ }
     ensures { λ r. ⌜ Characters (now (s .entry)) at r ⌝ }
@@ -163,18 +172,20 @@ pub fn characters_end(table: &[u64; 256], s: &[u8], at: usize) -> usize
     if s.len() < LONG {
         return at;
     }
-    let mut end = at;
     let mut i = at;
-    let mut state = BETWEEN;
+    let mut reader = Reader {
+        state: BETWEEN,
+        end: at,
+    };
     while s.len() - i >= 4 {
-        state = follow_four(table, s, i, state);
-        if state == NOWHERE {
-            return last_characters(table, s, end);
+        let one = pass(table, s, i, reader);
+        let two = pass(table, s, i + 1, one);
+        let three = pass(table, s, i + 2, two);
+        reader = pass(table, s, i + 3, three);
+        if reader.state == NOWHERE {
+            return reader.end;
         }
         i += 4;
-        if state == BETWEEN {
-            end = i;
-        }
     }
-    last_characters(table, s, end)
+    last_characters(table, s, reader.end)
 }

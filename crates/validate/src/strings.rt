@@ -5,6 +5,8 @@ ghost use mathlib.Core.Path.{_≡_};
 ghost use Prim.Native.Nat.{_≤_, _<_};
 ghost use lib.ListN.{length, getD};
 ghost use Rattle.encoding.specs.RowTable.{RowTable};
+ghost use Rattle.swar.specs.Kinds.{plain};
+ghost use Rattle.swar.specs.Run.{Run};
 ghost use Rattle.swar.specs.KindLaws.{NotPlain};
 ghost use Rattle.json.specs.Machine.{inString, escaping, hexDue, closed};
 ghost use Rattle.json.specs.Led.{Led};
@@ -141,6 +143,19 @@ fn character_end(s: &[u8], rows: &[u8; 45], table: &[u64; 256], at: usize) -> Sc
     Scan { ok: false, at }
 }
 
+// The end of the plain bytes from `at` on; at once where a quote stands there.
+fn rest_run(s: &[u8], at: usize) -> usize
+    requires { ⌜ at ≤ length (now s) ⌝ }
+    ensures { λ r. ⌜ Run plain (now (s .entry)) at r ⌝ }
+{
+    if at < s.len() {
+        if s[at] == QUOTE {
+            return at;
+        }
+    }
+    swar::plain_run(s, at)
+}
+
 // Reads a string from what follows its opening quote up to the place after its closing quote.
 pub fn string_end(s: &[u8], rows: &[u8; 45], table: &[u64; 256], from: usize) -> Scan
     requires { ⌜ RowTable (now rows) × (from ≤ length (now s)) × Leads (now table) ⌝ }
@@ -159,7 +174,7 @@ pub fn string_end(s: &[u8], rows: &[u8; 45], table: &[u64; 256], from: usize) ->
         if !character.ok {
             return Scan { ok: false, at };
         }
-        i = swar::plain_run(s, at);
+        i = rest_run(s, at);
     }
     Scan { ok: false, at: i }
 }

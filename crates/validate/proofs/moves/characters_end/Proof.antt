@@ -1,19 +1,20 @@
--- `validate::moves::characters_end` meets its contract. The loop's invariant: the state is where the bytes up to `i` lead, and up to `end`
--- they are whole characters. The measure is how many bytes are left. Assumes nothing.
+-- `validate::moves::characters_end` meets its contract. The loop's invariant: the reader has come to `i`, and up to its end there are whole
+-- characters. The measure is how many bytes are left. Assumes nothing.
 use mathlib.Core.Bool.{true}
 use Prim.Native.Nat.{_-_}
 use native.Mathlib.Omega.{arith}
 use lib.ListN.{length}
-use Rattle.validate.specs.MoveLaws.{Reader, reader-start, reader-on, reader-between, characters-none, characters-then}
+use Rattle.validate.specs.Moves.{Reader}
+use Rattle.validate.specs.MoveLaws.{reader-start, passes-four, characters-none, characters-then}
 use borrow.Author.Needs.{needs}
 use Rattle.validate.proofs.moves.characters_end.Statement.{statement}
 use Rattle.validate.proofs.moves.characters_end.Tie as tie
 
 abbrev Inv-loop : tie.InvT-loop
-Inv-loop table s at end₀ i₀ state₀ end i state = Reader s at end i state
+Inv-loop table s at i₀ reader₀ i reader = Reader s at i (reader .state) (reader .end)
 
 abbrev μ-loop : tie.MeasureT-loop
-μ-loop table s at end₀ i₀ state₀ end i state = length s - i
+μ-loop table s at i₀ reader₀ i reader = length s - i
 
 returns : tie.Need-returns Inv-loop μ-loop
 returns c = characters-none (omega (arith, c .before .before .pre .1))
@@ -24,16 +25,32 @@ loop-holds c = reader-start (omega (arith, c .before .before .pre .1))
 sub-loop : tie.Need-sub-loop Inv-loop μ-loop
 sub-loop c = c .loop .inv .within
 
-follow-four-requires : tie.Need-follow-four-requires Inv-loop μ-loop
-follow-four-requires c κs =
-    let inv = c .before .loop .inv in
-    (c .before .before .before .before .pre .0, omega (arith, inv .within, c .loop-test .taken), inv .small)
+pass-requires : tie.Need-pass-requires Inv-loop μ-loop
+pass-requires c κs = search needs
 
-last-characters-requires : tie.Need-last-characters-requires Inv-loop μ-loop
-last-characters-requires c κs = (c .before .before .before .before .before .before .pre .0, c .before .before .before .loop .inv .whole .led true .within)
+add-pass : tie.Need-add-pass Inv-loop μ-loop
+add-pass c = search needs
+
+pass-requires-2 : tie.Need-pass-requires-2 Inv-loop μ-loop
+pass-requires-2 c κs = search needs
+
+add-pass-2 : tie.Need-add-pass-2 Inv-loop μ-loop
+add-pass-2 c = search needs
+
+pass-requires-3 : tie.Need-pass-requires-3 Inv-loop μ-loop
+pass-requires-3 c κs = search needs
+
+add-pass-3 : tie.Need-add-pass-3 Inv-loop μ-loop
+add-pass-3 c = search needs
+
+pass-requires-4 : tie.Need-pass-requires-4 Inv-loop μ-loop
+pass-requires-4 c κs = search needs
 
 returns-2 : tie.Need-returns-2 Inv-loop μ-loop
-returns-2 c = characters-then (c .before .before .before .before .loop .inv .whole) (c .last-characters .ensures)
+returns-2 c =
+    let third = c .before .before .before in
+    (passes-four (third .before .before .before .before .loop .inv) (third .before .before .pass .ensures) (third .before .pass2 .ensures)
+    (third .pass3 .ensures) (c .before .before .pass4 .ensures)) .whole
 
 add-i : tie.Need-add-i Inv-loop μ-loop
 add-i c = search needs
@@ -43,23 +60,15 @@ loop-less c = search needs
 
 loop-again : tie.Need-loop-again Inv-loop μ-loop
 loop-again c =
-    let inv = c .before .before .before .before .loop .inv in
-    reader-between inv (omega (arith, inv .within, c .before .before .before .loop-test .taken)) (c .before .before .follow-four .ensures)
-    (c .if3 .taken)
+    let third = c .before .before .before in
+    passes-four (third .before .before .before .before .loop .inv) (third .before .before .pass .ensures) (third .before .pass2 .ensures)
+    (third .pass3 .ensures) (c .before .before .pass4 .ensures)
 
-loop-less-2 : tie.Need-loop-less-2 Inv-loop μ-loop
-loop-less-2 c = search needs
-
-loop-again-2 : tie.Need-loop-again-2 Inv-loop μ-loop
-loop-again-2 c =
-    let inv = c .before .before .before .before .loop .inv in
-    reader-on inv (omega (arith, inv .within, c .before .before .before .loop-test .taken)) (c .before .before .follow-four .ensures)
-
-last-characters-requires-2 : tie.Need-last-characters-requires-2 Inv-loop μ-loop
-last-characters-requires-2 c κs = (c .before .before .before .before .pre .0, c .before .loop .inv .whole .led true .within)
+last-characters-requires : tie.Need-last-characters-requires Inv-loop μ-loop
+last-characters-requires c κs = (c .before .before .before .before .pre .0, c .before .loop .inv .whole .led true .within)
 
 returns-3 : tie.Need-returns-3 Inv-loop μ-loop
-returns-3 c = characters-then (c .before .before .loop .inv .whole) (c .last-characters2 .ensures)
+returns-3 c = characters-then (c .before .before .loop .inv .whole) (c .last-characters .ensures)
 
 pub characters-end-spec : {M : Type 1} → statement M
 characters-end-spec =
@@ -70,13 +79,16 @@ characters-end-spec =
     returns
     loop-holds
     sub-loop
-    follow-four-requires
-    last-characters-requires
+    pass-requires
+    add-pass
+    pass-requires-2
+    add-pass-2
+    pass-requires-3
+    add-pass-3
+    pass-requires-4
     returns-2
     add-i
     loop-less
     loop-again
-    loop-less-2
-    loop-again-2
-    last-characters-requires-2
+    last-characters-requires
     returns-3)

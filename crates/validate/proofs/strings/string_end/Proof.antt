@@ -46,14 +46,21 @@ character-end-requires c κs =
 returns-2 : tie.Need-returns-2 Inv-loop μ-loop
 returns-2 c = λ f. string-wrong (c .before .before .before .before .before .before .loop .inv .0 f) (c .before .before .character-end .ensures) (not-true _ (c .if2 .taken))
 
-plain-run-requires-2 : tie.Need-plain-run-requires-2 Inv-loop μ-loop
-plain-run-requires-2 c κs = c .before .before .character-end .ensures .led true .within
+rest-run-requires : tie.Need-rest-run-requires Inv-loop μ-loop
+rest-run-requires c κs = c .before .before .character-end .ensures .led true .within
 
 loop-less : tie.Need-loop-less Inv-loop μ-loop
-loop-less c = omega (arith, c .before .before .before .character-end .ensures .moved (not-false _ (c .before .if2 .left)), c .plain-run2 .ensures .passed .forward)
+loop-less c =
+    omega (arith, c .before .before .before .character-end .ensures .moved (not-false _ (c .before .if2 .left)), c .rest-run .ensures .passed .forward)
 
 loop-again : tie.Need-loop-again Inv-loop μ-loop
-loop-again c = (λ f. led-plain (string-on (c .before .before .before .before .before .before .before .loop .inv .0 f) (c .before .before .before .character-end .ensures) (not-false _ (c .before .if2 .left))) (c .plain-run2 .ensures .passed), c .plain-run2 .ensures .stop)
+loop-again c =
+    let read = c .before .before .before in (
+      λ f.
+          led-plain (string-on (read .before .before .before .before .loop .inv .0 f) (read .character-end .ensures) (not-false _ (c .before .if2 .left)))
+          (c .rest-run .ensures .passed),
+      c .rest-run .ensures .stop,
+    )
 
 returns-3 : tie.Need-returns-3 Inv-loop μ-loop
 returns-3 c = λ f. string-open (c .before .loop .inv .0 f) (c .loop-test .left)
@@ -71,7 +78,7 @@ string-end-spec =
     returns
     character-end-requires
     returns-2
-    plain-run-requires-2
+    rest-run-requires
     loop-less
     loop-again
     returns-3)
