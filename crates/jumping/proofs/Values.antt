@@ -68,9 +68,9 @@ lost-farther y = rw (y .is) (omega arith)
 pub passed-farther : {i e w : ℕ} {l l′ : List ℕ} {a r : Standing} → PassedTo l l′ w e a r → i < e → i < r .at
 passed-farther y h = rw (y .is) h
 
-pub onward-entered : {n b w f : ℕ} {z z′ : Pile} {v : Coming} {a r : Standing} → EnteredAt z z′ b w f v a r → v .at < n
+pub onward-entered : {n b c w f : ℕ} {z z′ : Pile} {v : Coming} {a r : Standing} → EnteredAt z z′ b c w f v a r → v .at < c → c ≤ n
     → a .depth < maxDepth → f ≤ maxDepth → Onward n (v .at) r
-onward-entered y h k e =
+onward-entered y g h k e =
     rw (y .is)
     (record {
       onward = omega arith;
@@ -94,8 +94,8 @@ module _ {x : List Step} {s : List ℕ} {whole : Tally} where
       rw (y .is, y .list-is) (record { root = λ e. absurd (false≢true e); item = λ e. absurd (false≢true e); passed = λ e. p })
 
   -- a container has been entered
-  pub due-entered : {z z′ : Pile} {l : List ℕ} {b w f : ℕ} {v : Coming} {a r : Standing} → EnteredAt z z′ b w f v a r
-      → ItemDue x s whole (kept z (a .frames) (a .depth) (a .marks) w b) (v .at + 1) (tallyOf l a) (a .depth + 1) f (v .marks) → Due x s whole z′ l r
+  pub due-entered : {z z′ : Pile} {l : List ℕ} {b c w f : ℕ} {v : Coming} {a r : Standing} → EnteredAt z z′ b c w f v a r
+      → ItemDue x s whole (kept z (a .frames) (a .depth) (a .marks) w b) c (tallyOf l a) (a .depth + 1) f (v .marks) → Due x s whole z′ l r
   due-entered y p =
       rw (y .is, y .pile-is) (record { root = λ e g. absurd (omega arith); item = λ e g. p; passed = λ e. absurd (true≢false e) })
 
@@ -224,7 +224,7 @@ module _ {x : List Step} {s : List ℕ} {whole : Tally} {z : Pile} {i : ℕ} {l 
         passed-as (sym (y .1)) (ap₂ (λ (n : ℕ) (t : Tally). finish w n t) (sym (y .1)) (y .0)) (v .after)
 
     -- it is entered
-    pub items-due : (classOf (getD s c 0) ≡ 2 → ⊥) → ItemDue x s whole (kept z f d m w (getD s i 0)) (i + 1) (tally l u h′ k) (d + 1) f′ m′
+    pub items-due : (classOf (getD s c 0) ≡ 2 → ⊥) → ItemDue x s whole (kept z f d m w (getD s i 0)) c (tally l u h′ k) (d + 1) f′ m′
     items-due e =
         let o : Open =
         record {

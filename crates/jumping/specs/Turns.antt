@@ -55,12 +55,12 @@ pub record PassedTo (list list′ : List ℕ) (w e : ℕ) (a r : Standing) : Typ
   pub list-is : list′ ≡ endPair w e list
   pub is : r ≡ record { at = e; item = false; depth = a .depth; frames = a .frames; marks = a .marks; used = a .used; peak = a .peak; stop = a .stop }
 
--- in the container v with the opening bracket b, at the place after it, with f frames; w is the pair that waits for its end
-pub record EnteredAt (z z′ : Pile) (b w f : ℕ) (v : Coming) (a r : Standing) : Type 0 where
+-- in the container v with the opening bracket b, at its first item at place e, with f frames; w is the pair that waits for its end
+pub record EnteredAt (z z′ : Pile) (b e w f : ℕ) (v : Coming) (a r : Standing) : Type 0 where
   pub pile-is : z′ ≡ kept z (a .frames) (a .depth) (a .marks) w b
   pub is :
       r
-      ≡ record { at = v .at + 1; item = true; depth = a .depth + 1; frames = f; marks = v .marks; used = a .used; peak = a .peak; stop = a .stop }
+      ≡ record { at = e; item = true; depth = a .depth + 1; frames = f; marks = v .marks; used = a .used; peak = a .peak; stop = a .stop }
 
 -- a container is passed without a look inside only where it has no marks or the list is full
 pub record Skipped (m stop : ℕ) (r : Bool) : Type 0 where

@@ -71,9 +71,10 @@ fn is_dead(marks: u16, stop: usize) -> bool
     false
 }
 
-// Enters the container ahead, past its opening bracket, and keeps what is needed when it is left.
+// Enters the container ahead, up to its first item at `first`, and keeps what is needed when it is left.
 fn enter(
     bracket: u8,
+    first: usize,
     v: Coming,
     wait: usize,
     frames: usize,
@@ -83,17 +84,16 @@ fn enter(
     waits: &mut [usize; MAX_DEPTH],
     brackets: &mut [u8; MAX_DEPTH],
 ) -> Standing
-    requires { ⌜ (v .at ≤ maxBytes) × (a .frames < maxDepth) × (a .depth < maxDepth) ⌝ }
+    requires { ⌜ (a .frames < maxDepth) × (a .depth < maxDepth) ⌝ }
     ensures { λ r. ⌜ EnteredAt
         (pile (now (levels .entry)) (now (held .entry)) (now (waits .entry)) (now (brackets .entry)))
         (pile (now (levels .exit)) (now (held .exit)) (now (waits .exit)) (now (brackets .exit)))
-        bracket wait frames v a r ⌝ }
+        bracket first wait frames v a r ⌝ }
 {
     let depth = a.depth;
     push_frame(levels, held, a.frames, depth, a.marks);
     waits[depth] = wait;
     brackets[depth] = bracket;
-    let first = v.at + 1;
     let inner = depth + 1;
     Standing {
         at: first,
@@ -161,7 +161,18 @@ fn container(
         return pass(list, wait, first + 1, b);
     }
     let bracket = record[at];
-    enter(bracket, v, wait, frames, b, levels, held, waits, brackets)
+    enter(
+        bracket,
+        first,
+        v,
+        wait,
+        frames,
+        b,
+        levels,
+        held,
+        waits,
+        brackets,
+    )
 }
 
 // Passes the value ahead, or enters it where it is a container that has items and is not dead.

@@ -192,11 +192,11 @@ module _ {q : List ℕ} {c : Compiled} {s : List ℕ} {a n : ℕ} {o : Bool} {st
         exact = λ x f rest goal end v. let y = no-items (next x) s rest (kindIf o) st n goal end a i t v b e in (y .0, sym (y .1));
       }
 
-  pub items-begin : {i : ℕ} → a ≤ length s → EndsBlanks s a i → (classOf (getD s i 0) ≡ 2 → ⊥) → AtItem q c s a n o st t a t
-  items-begin {i} l b f =
+  pub items-begin : {i : ℕ} → EndsBlanks s a i → (classOf (getD s i 0) ≡ 2 → ⊥) → AtItem q c s a n o st t i t
+  items-begin {i} b f =
       record {
-        onward = omega arith;
-        within = l;
+        onward = b .onward;
+        within = b .within;
         exact = λ x h rest goal end v. first-item (next x) s rest (kindIf o) st n goal end a i t v b f;
       }
 

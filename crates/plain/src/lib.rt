@@ -169,7 +169,7 @@ fn walk_items(
         let end = first + 1;
         return Walked { end, counts };
     }
-    let mut i = at;
+    let mut i = first;
     let mut sum = counts;
     loop {
         let child = enter_child(query, steps, record, i, object, node);

@@ -19,11 +19,11 @@ use Rattle.json.specs.Grammar.{Literal, Minus, Int, Char, Name, Value}
 use Rattle.json.specs.Grammar.{putLiteral, putMinus, putInt, putFrac, putExp, putChars, putString, putKey, putValue}
 use Rattle.json.specs.Read.{in-bounds}
 use Rattle.select.specs.Nodes.{size, keySize}
-use Rattle.swar.specs.Kinds.{unquoted, blank}
+use Rattle.swar.specs.Kinds.{unquoted, gap}
 use Rattle.swar.specs.Run.{Run}
 use Rattle.scan.specs.Places.{Head, head-of, past, past-blanks, slice-is}
 use Rattle.scan.specs.Scans.{isWordByte, IsScalar, EndsBlanks, EndsString, EndsScalar, EntersItem}
-use Rattle.scan.specs.Shape.{isBlank, endsWord, solid, stopped, wordy, Piece, plain, escaped, putPieces}
+use Rattle.scan.specs.Shape.{endsWord, solid, stopped, wordy, Piece, plain, escaped, putPieces}
 use Rattle.scan.specs.ShapeLaws.{solid-key, solid-colon, blank-is, wordy-literal, wordy-number, pieces, chars-are}
 
 module _ {p : ℕ → Bool} {s : List ℕ} where
@@ -69,17 +69,17 @@ run-exact {p} {s} {a} {r} (b ∷ xs) rest f g e h =
     omega (arith, run-exact xs rest (f .1) g (x .rest-is) (run-next h (x .inside) (ap p (x .byte-is) ∙ f .0)))
 
 -- blanks
-all-blanks : (w : Blanks) → AllOf blank (putBlanks w [])
-unfolding putBlanks blank isBlank
+all-blanks : (w : Blanks) → AllOf gap (putBlanks w [])
+unfolding putBlanks
 all-blanks [] = tt
 all-blanks (b ∷ w) = (blank-is b, all-blanks w)
 
-solid-stops : (rest : List ℕ) → solid rest ≡ true → Stops blank rest
-unfolding solid blank isBlank
+solid-stops : (rest : List ℕ) → solid rest ≡ true → Stops gap rest
+unfolding solid
 solid-stops [] h = tt
-solid-stops (b ∷ rest) h = not-true (isBlank b) h
+solid-stops (b ∷ rest) h = not-true (gap b) h
 
-pub run-blanks : {s : List ℕ} {a r : ℕ} → Run blank s a r → EndsBlanks s a r
+pub run-blanks : {s : List ℕ} {a r : ℕ} → Run gap s a r → EndsBlanks s a r
 run-blanks {s} {a} {r} h = record { onward = h .passed .forward; within = h .passed .within; exact = exactly }
   where
     exactly : (w : Blanks) (rest : List ℕ) → drop a s ≡ putBlanks w rest → solid rest ≡ true → r ≡ a + length w

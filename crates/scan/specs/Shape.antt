@@ -5,22 +5,18 @@ use mathlib.Core.Bool.{Bool, true, false, not, _&&_, _||_}
 use Prim.Native.Nat.{ℕ}
 use lib.Dec.{eqb}
 use Rattle.encoding.specs.Class.{classOf}
-
--- a blank
-unfoldable pub isBlank : ℕ → Bool
-unfolding classOf
-isBlank b = eqb (classOf b) 7
+use Rattle.swar.specs.Kinds.{gap}
 
 -- a byte that ends a literal or a number: a closing bracket, a comma or a blank
 unfoldable pub endsWord : ℕ → Bool
 unfolding classOf
 endsWord b = eqb (classOf b) 2 || (eqb (classOf b) 4 || eqb (classOf b) 7)
 
--- no blank stands first
+-- no blank stands first, nor another byte up to the space
 unfoldable pub solid : List ℕ → Bool
-unfolding isBlank
+unfolding gap
 solid [] = true
-solid (b ∷ s) = not (isBlank b)
+solid (b ∷ s) = not (gap b)
 
 -- a byte stands first that closes no container
 unfoldable pub starts : List ℕ → Bool

@@ -19,9 +19,9 @@ use Rattle.encoding.specs.Utf8.{Wide, putWide}
 use Rattle.json.specs.Grammar as G
 use Rattle.json.specs.Grammar.{Literal, Minus, Int, Frac, Exp, escapeByte, Hex, hexByte, Char, Kind, Key, Value, More}
 use Rattle.json.specs.Grammar.{putLiteral, putMinus, putInt, putFrac, putExp, putExpSign, putChar, putChars, putString, putKey, putValue, putMore}
-use Rattle.swar.specs.Kinds.{inner}
+use Rattle.swar.specs.Kinds.{inner, gap}
 use Rattle.scan.specs.Scans.{isWordByte}
-use Rattle.scan.specs.Shape.{isBlank, endsWord, solid, starts, stopped, wordy, Piece, plain, escaped, putPieces}
+use Rattle.scan.specs.Shape.{endsWord, solid, starts, stopped, wordy, Piece, plain, escaped, putPieces}
 
 of-T : (b : Bool) → T b → b ≡ true
 of-T true t = refl
@@ -44,12 +44,12 @@ in-range {lo} {hi} p t x =
 
 -- no blank begins a value or a key
 int-solid : (n : Int) (s : List ℕ) → solid (putInt n s) ≡ true
-unfolding putInt solid isBlank passes classOf
+unfolding putInt solid gap passes
 int-solid G.nought s = refl
-int-solid (G.whole x ds) s = in-range (λ b. not (isBlank b)) tt x
+int-solid (G.whole x ds) s = in-range (λ b. not (gap b)) tt x
 
 pub solid-value : (v : Value) (s : List ℕ) → solid (putValue v s) ≡ true
-unfolding putValue putLiteral putMinus putString solid isBlank classOf
+unfolding putValue putLiteral putMinus putString solid gap
 solid-value (G.literal G.falseName) s = refl
 solid-value (G.literal G.nullName) s = refl
 solid-value (G.literal G.trueName) s = refl
@@ -60,7 +60,7 @@ solid-value (G.container G.array is) s = refl
 solid-value (G.container G.object is) s = refl
 
 pub solid-key : (k : Kind) (key : Key k) (s : List ℕ) → solid s ≡ true → solid (putKey k key s) ≡ true
-unfolding putKey putString solid isBlank classOf
+unfolding putKey putString solid gap
 solid-key G.array key s h = h
 solid-key G.object key s h = refl
 
@@ -87,20 +87,20 @@ starts-key G.array key s h = h
 starts-key G.object key s h = refl
 
 pub solid-colon : (s : List ℕ) → solid (0x3A ∷ s) ≡ true
-unfolding solid isBlank classOf
+unfolding solid gap
 solid-colon s = refl
 
 pub solid-comma : (s : List ℕ) → solid (0x2C ∷ s) ≡ true
-unfolding solid isBlank classOf
+unfolding solid gap
 solid-comma s = refl
 
 pub solid-closing : (k : Kind) (s : List ℕ) → solid (G.closing k ∷ s) ≡ true
-unfolding solid isBlank classOf
+unfolding solid gap
 solid-closing G.array s = refl
 solid-closing G.object s = refl
 
-pub blank-is : (w : Blank) → isBlank (blankByte w) ≡ true
-unfolding isBlank classOf
+pub blank-is : (w : Blank) → gap (blankByte w) ≡ true
+unfolding gap
 blank-is B.space = refl
 blank-is B.tab = refl
 blank-is B.feed = refl

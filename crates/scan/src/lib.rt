@@ -35,12 +35,12 @@ fn ends_word(classes: &[u8; 256], b: u8) -> bool
     c == 7
 }
 
-// The place after the blanks at `at`.
+// The place after the blanks at `at`: a checked record has no other bytes up to the space outside its strings.
 pub fn skip_blanks(s: &[u8], at: usize) -> usize
     requires { ⌜ at ≤ length (now s) ⌝ }
     ensures { λ r. ⌜ EndsBlanks (now (s .entry)) at r ⌝ }
 {
-    swar::blank_run(s, at)
+    swar::gap_run(s, at)
 }
 
 // Whether an odd run of backslashes stands just before `q`, of the bytes from `from` on.

@@ -1,16 +1,16 @@
 -- Which bytes are of which kind, both ways.
-use mathlib.Core.Path.{_≡_, refl, sym, _∙_}
+use mathlib.Core.Path.{_≡_, refl, sym, ap, _∙_}
 use mathlib.Core.Bool.{Bool, true, false}
 use mathlib.Core.Logic.{_⊎_, inl, inr}
 use Prim.Native.Nat.{ℕ, _≤_, _<_}
 use native.Mathlib.Omega.{arith}
 use lib.Dec.{leb, eqb}
-use borrow.Author.Tests.{leb-true, leb-false, eq-eqb, ne-eqb, eqb-true, eqb-false}
+use borrow.Author.Tests.{leb-true, leb-false, le-leb, lt-leb, eq-eqb, ne-eqb, eqb-true, eqb-false}
 use Rattle.encoding.specs.Bytes.{Blank, space, tab, feed, return, blankByte}
 use Rattle.encoding.specs.BytesLaws.{inside, beneath, beyond}
 use Rattle.encoding.specs.Class.{classOf}
 use Rattle.encoding.specs.ClassLaws as Class
-use Rattle.swar.specs.Kinds.{plain, unquoted, blank, spaceByte, stringKind}
+use Rattle.swar.specs.Kinds.{plain, unquoted, gap, blank, spaceByte, runKind}
 
 -- a plain byte, by the range that it is of
 pub data Plain (b : ℕ) : Type 0 where
@@ -118,10 +118,26 @@ module _ {b : ℕ} where
       go (inr (backslash e)) = absurd (s e)
       go (inr (wide u)) = absurd (omega arith)
 
-  -- a quote ends a run of either kind
-  pub string-fails : (strict : Bool) → b ≡ 0x22 → stringKind strict b ≡ false
-  string-fails true e = plain-fails (quote e)
-  string-fails false e = unquoted-fails e
+  pub gap-holds : b ≤ 0x20 → gap b ≡ true
+  unfolding gap
+  gap-holds h = le-leb b 0x20 h
+
+  pub gap-fails : 0x20 < b → gap b ≡ false
+  unfolding gap
+  gap-fails h = lt-leb b 0x20 h
+
+-- a kind by its number
+module _ {k : ℕ} where
+  pub kind-gap : k ≡ 2 → runKind k ≡ gap
+  kind-gap e = rw e
+
+  pub kind-unquoted : k ≡ 1 → runKind k ≡ unquoted
+  kind-unquoted e = rw e
+
+  pub kind-plain : (k ≡ 2 → ⊥) → (k ≡ 1 → ⊥) → runKind k ≡ plain
+  kind-plain g u =
+      ap (λ (x : Bool). elim x [ true ↦ gap | false ↦ elim (eqb k 1) [ true ↦ unquoted | false ↦ plain ] ]) (ne-eqb k 2 g)
+      ∙ ap (λ (x : Bool). elim x [ true ↦ unquoted | false ↦ plain ]) (ne-eqb k 1 u)
 
 pub space-blank : (b : ℕ) → spaceByte b ≡ true → blank b ≡ true
 unfolding spaceByte

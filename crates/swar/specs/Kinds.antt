@@ -28,7 +28,10 @@ inner b = leb 0x2D b && (not (eqb b 0x5D) && not (eqb b 0x7D))
 unfoldable pub digit : ℕ → Bool
 digit b = leb 0x30 b && leb b 0x39
 
--- the bytes up to a string's next quote, strictly plain or not
-abbrev pub stringKind : Bool → ℕ → Bool
-stringKind true b = plain b
-stringKind false b = unquoted b
+-- a byte up to the space: outside of strings a JSON text has none but blanks
+unfoldable pub gap : ℕ → Bool
+gap b = leb b 0x20
+
+-- the kinds whose runs are read eight bytes at a time, by number
+abbrev pub runKind : ℕ → ℕ → Bool
+runKind k = elim (eqb k 2) [ true ↦ gap | false ↦ elim (eqb k 1) [ true ↦ unquoted | false ↦ plain ] ]

@@ -2,7 +2,7 @@
 ghost use Prim.Native.Nat.{_+_, _-_, _%_, _^_, _≤_};
 ghost use mathlib.Core.Path.{_≡_};
 ghost use lib.ListN.{length};
-ghost use Rattle.swar.specs.Kinds.{plain, unquoted, blank, spaceByte, inner, digit, stringKind};
+ghost use Rattle.swar.specs.Kinds.{plain, unquoted, gap, blank, spaceByte, inner, digit, runKind};
 ghost use Rattle.swar.specs.Run.{Passed, Run};
 ghost use Rattle.swar.specs.Stops.{Stops, FirstByte};
 
@@ -28,15 +28,19 @@ const HIGHEST: u64 = 0x8080808080808080;
 
 const ALL: u64 = 0xffffffffffffffff;
 
-// Whether `b` is a plain byte of a string, or, where `strict` is false, no quote.
-fn in_string(b: u8, strict: bool) -> bool
-    ensures { λ r. ⌜ r ≡ stringKind strict b ⌝ }
+// The kinds of bytes whose runs are read eight bytes at a time: plain in a string, no quote, and up to the space.
+const PLAIN: u8 = 0;
+
+const UNQUOTED: u8 = 1;
+
+const GAP: u8 = 2;
+
+// Whether `b` is a plain byte of a string.
+fn is_plain(b: u8) -> bool
+    ensures { λ r. ⌜ r ≡ plain b ⌝ }
 {
     if b == QUOTE {
         return false;
-    }
-    if !strict {
-        return true;
     }
     if b == BACKSLASH {
         return false;
@@ -48,6 +52,19 @@ fn in_string(b: u8, strict: bool) -> bool
         return false;
     }
     true
+}
+
+// Whether `b` is of the kind.
+fn is_of(b: u8, kind: u8) -> bool
+    ensures { λ r. ⌜ r ≡ runKind kind b ⌝ }
+{
+    if kind == GAP {
+        return b <= SPACE;
+    }
+    if kind == UNQUOTED {
+        return b != QUOTE;
+    }
+    is_plain(b)
 }
 
 // `x` less `m`, wrapped.
@@ -92,15 +109,24 @@ fn digit_stops(x: u64) -> u64
     (below | above) & HIGHEST
 }
 
-// Of eight bytes, those before the first that is not of the kind come back as 0, and that one not.
-fn stops(x: u64, strict: bool) -> u64
-    ensures { λ r. ⌜ Stops (stringKind strict) x r ⌝ }
+// Of eight bytes, those before the first above the space come back as 0, and that one not.
+fn gap_stops(x: u64) -> u64
+    ensures { λ r. ⌜ Stops gap x r ⌝ }
 {
-    if strict {
-        plain_stops(x)
-    } else {
-        unquoted_stops(x)
+    (minus(SPACES, x) | x) & HIGHEST
+}
+
+// Of eight bytes, those before the first that is not of the kind come back as 0, and that one not.
+fn stops(x: u64, kind: u8) -> u64
+    ensures { λ r. ⌜ Stops (runKind kind) x r ⌝ }
+{
+    if kind == GAP {
+        return gap_stops(x);
     }
+    if kind == UNQUOTED {
+        return unquoted_stops(x);
+    }
+    plain_stops(x)
 }
 
 // How many bytes of `w` before its first that is not 0; 8 where there is none.
@@ -111,13 +137,13 @@ fn zero_bytes(w: u64) -> usize
 }
 
 // The end of the run from `at` on, byte by byte.
-fn string_tail(s: &[u8], at: usize, strict: bool) -> usize
+fn run_tail(s: &[u8], at: usize, kind: u8) -> usize
     requires { ⌜ at ≤ length (now s) ⌝ }
-    ensures { λ r. ⌜ Run (stringKind strict) (now (s .entry)) at r ⌝ }
+    ensures { λ r. ⌜ Run (runKind kind) (now (s .entry)) at r ⌝ }
 {
     let mut i = at;
     while i < s.len() {
-        if !in_string(s[i], strict) {
+        if !is_of(s[i], kind) {
             return i;
         }
         i += 1;
@@ -126,19 +152,19 @@ fn string_tail(s: &[u8], at: usize, strict: bool) -> usize
 }
 
 // The end of the run from `at` on, eight bytes at a time.
-fn string_bytes(s: &[u8], at: usize, strict: bool) -> usize
+fn run_bytes(s: &[u8], at: usize, kind: u8) -> usize
     requires { ⌜ at ≤ length (now s) ⌝ }
-    ensures { λ r. ⌜ Run (stringKind strict) (now (s .entry)) at r ⌝ }
+    ensures { λ r. ⌜ Run (runKind kind) (now (s .entry)) at r ⌝ }
 {
     let mut i = at;
     while s.len() - i >= 8 {
-        let w = stops(bits::load8(s, i), strict);
+        let w = stops(bits::load8(s, i), kind);
         if w != 0 {
             return i + zero_bytes(w);
         }
         i += 8;
     }
-    string_tail(s, i, strict)
+    run_tail(s, i, kind)
 }
 
 // The end of the plain bytes of a string from `at` on: 20-21, 23-5B, 5D-7F.
@@ -146,7 +172,7 @@ pub fn plain_run(s: &[u8], at: usize) -> usize
     requires { ⌜ at ≤ length (now s) ⌝ }
     ensures { λ r. ⌜ Run plain (now (s .entry)) at r ⌝ }
 {
-    string_bytes(s, at, true)
+    run_bytes(s, at, PLAIN)
 }
 
 // The end of the bytes from `at` on that are no quotes.
@@ -154,7 +180,28 @@ pub fn unquoted_run(s: &[u8], at: usize) -> usize
     requires { ⌜ at ≤ length (now s) ⌝ }
     ensures { λ r. ⌜ Run unquoted (now (s .entry)) at r ⌝ }
 {
-    string_bytes(s, at, false)
+    run_bytes(s, at, UNQUOTED)
+}
+
+// The end of the bytes up to the space from `at` on: at once where none stands there, or one alone.
+pub fn gap_run(s: &[u8], at: usize) -> usize
+    requires { ⌜ at ≤ length (now s) ⌝ }
+    ensures { λ r. ⌜ Run gap (now (s .entry)) at r ⌝ }
+{
+    if at >= s.len() {
+        return at;
+    }
+    if s[at] > SPACE {
+        return at;
+    }
+    let next = at + 1;
+    if next >= s.len() {
+        return next;
+    }
+    if s[next] > SPACE {
+        return next;
+    }
+    run_bytes(s, next + 1, GAP)
 }
 
 // Whether `b` is a blank.

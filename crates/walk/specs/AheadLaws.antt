@@ -64,12 +64,19 @@ module _ (s rest : List ℕ) (k : Kind) (i c : ℕ) (blanks : EndsBlanks s i c) 
       let x : c ≡ i + length w = blanks .exact w (0x2C ∷ u) e (solid-comma u) in
       (x, head-of s c 0x2C u (ap (λ (a : ℕ). drop a s) x ∙ past-blanks s i w (0x2C ∷ u) e))
 
-  at-item : (key : Key k) (v : Value) (u : List ℕ) → drop i s ≡ putBlanks w (putKey k key (putValue v u))
-      → (c < length s) × (classOf (getD s c 0) ≡ 2 → ⊥)
+  -- an item without the blanks before it
+  record ItemStands (key : Key k) (v : Value) (u : List ℕ) : Type 0 where
+    place : c ≡ i + length w
+    item : drop c s ≡ putKey k key (putValue v u)
+    inside : c < length s
+    opens : classOf (getD s c 0) ≡ 2 → ⊥
+
+  at-item : (key : Key k) (v : Value) (u : List ℕ) → drop i s ≡ putBlanks w (putKey k key (putValue v u)) → ItemStands key v u
   at-item key v u e =
       let x : c ≡ i + length w = blanks .exact w (putKey k key (putValue v u)) e (solid-key k key (putValue v u) (solid-value v u)) in
-      starts-at s c (putKey k key (putValue v u)) (starts-key k key (putValue v u) (starts-value v u))
-      (ap (λ (a : ℕ). drop a s) x ∙ past-blanks s i w (putKey k key (putValue v u)) e)
+      let here = ap (λ (a : ℕ). drop a s) x ∙ past-blanks s i w (putKey k key (putValue v u)) e in
+      let stands = starts-at s c (putKey k key (putValue v u)) (starts-key k key (putValue v u) (starts-value v u)) here in
+      record { place = x; item = here; inside = stands .0; opens = stands .1 }
 
 module _ (next : State → Label → State) (s rest : List ℕ) (k : Kind) (st : State) (n : ℕ) (goal : Tally) (end : ℕ) where
   abbrev ItemsAt : ℕ → Tally → Type 0
@@ -89,7 +96,7 @@ module _ (next : State → Label → State) (s rest : List ℕ) (k : Kind) (st :
       where
         go : (is : Items k) → drop i s ≡ putItems is rest → c < length s
         go (G.empty w) e = at-closing s rest k i c blanks w e .1 .inside
-        go (G.items w key v m) e = at-item s rest k i c blanks w key v (putMore m rest) e .0
+        go (G.items w key v m) e = at-item s rest k i c blanks w key v (putMore m rest) e .inside
 
     pub no-items : classOf (getD s c 0) ≡ 2 → (t ≡ goal) × (end ≡ c + 1)
     unfolding putItems itemsVisits tallied
@@ -98,27 +105,30 @@ module _ (next : State → Label → State) (s rest : List ℕ) (k : Kind) (st :
         go : (is : Items k) → drop i s ≡ putItems is rest → tallied t (itemsVisits next is st i) ≡ goal
             → end ≡ i + length (putItems is []) → (t ≡ goal) × (end ≡ c + 1)
         go (G.empty w) e r q = (r, omega (arith, at-closing s rest k i c blanks w e .0, length-blanks w (closing k ∷ [])))
-        go (G.items w key v m) e r q = absurd (at-item s rest k i c blanks w key v (putMore m rest) e .1 f)
+        go (G.items w key v m) e r q = absurd (at-item s rest k i c blanks w key v (putMore m rest) e .opens f)
 
-    pub first-item : (classOf (getD s c 0) ≡ 2 → ⊥) → ItemAt i t
-    unfolding putItems itemsVisits itemsNesting
+    pub first-item : (classOf (getD s c 0) ≡ 2 → ⊥) → ItemAt c t
+    unfolding putItems putBlanks itemsVisits itemsNesting
     first-item f = go (x .is) (x .here) (x .shallow) (x .runs) (x .ends)
       where
         go : (is : Items k) → drop i s ≡ putItems is rest → itemsNesting is ≤ n → tallied t (itemsVisits next is st i) ≡ goal
-            → end ≡ i + length (putItems is []) → ItemAt i t
+            → end ≡ i + length (putItems is []) → ItemAt c t
         go (G.empty w) e l r q = absurd (f (ap classOf (at-closing s rest k i c blanks w e .1 .byte-is) ∙ closing-class k))
         go (G.items w key v m) e l r q =
+            let here = at-item s rest k i c blanks w key v (putMore m rest) e in
+            let value : valueAt k c [] key ≡ valueAt k i w key = omega (arith, here .place) in
             record {
-              w = w;
+              w = [];
               key = key;
               v = v;
               m = m;
               j = 0;
-              here = e;
+              here = here .item;
               shallow = le-trans (le-max-left (nesting v) (moreNesting m)) l;
               shallow-more = le-trans (le-max-right (nesting v) (moreNesting m)) l;
-              runs = r;
-              ends = omega (arith, item-length k w key v (putMore m []));
+              runs =
+                  ap (λ (a : ℕ). tallied t (visits next v (next st (labelOf k key 0)) a ++ moreVisits next m st 1 (a + size v))) value ∙ r;
+              ends = omega (arith, value, item-length k w key v (putMore m []));
             }
 
   -- an item's value stands where the item's key ends, and what follows it ends a word

@@ -106,9 +106,7 @@ module _ (t : ℕ) where
 
   items-loop-holds : walk-items-lts.Need-loop-holds (items-claims t) (items-at t) walk-items.Post items-inv items-measure
   items-loop-holds c =
-      let blanks = c .before .before .before .before in
-      let asked = blanks .before .before .before .before .pre in
-      (refl, items-begin (asked .1 .1 .1 .1) (blanks .skip-blanks .ensures) (λ e. c .if2 .left (c .before .class .ensures ∙ e)))
+      (refl, items-begin (c .before .before .before .before .skip-blanks .ensures) (λ e. c .if2 .left (c .before .class .ensures ∙ e)))
 
   items-enter-child-requires : walk-items-lts.Need-enter-child-requires (items-claims t) (items-at t) walk-items.Post items-inv items-measure
   items-enter-child-requires c κs = search needs

@@ -1,20 +1,44 @@
--- `swar::stops` meets its contract: each of the two kinds has its own.
--- Assumes nothing.
+-- `swar::stops` meets its contract: each of the three kinds has its own. Assumes nothing.
+use mathlib.Core.Path.{sym, subst}
+use mathlib.Core.Bool.{Bool}
+use Prim.Native.Nat.{ℕ}
+use Rattle.swar.specs.KindLaws.{kind-gap, kind-unquoted, kind-plain}
+use Rattle.swar.specs.Stops.{Stops}
 use borrow.Author.Needs.{needs}
 use Rattle.swar.proofs.stops.Statement.{statement}
 use Rattle.swar.proofs.stops.Tie as tie
 
-plain-stops-requires : tie.Need-plain-stops-requires
-plain-stops-requires c κs = search needs
+gap-stops-requires : tie.Need-gap-stops-requires
+gap-stops-requires c κs = search needs
+
+returns : tie.Need-returns
+returns c =
+    subst (λ (kind : ℕ → Bool). Stops kind (c .before .before .args .x) (c .gap-stops .result)) (sym (kind-gap (c .before .if1 .taken)))
+    (c .gap-stops .ensures)
 
 unquoted-stops-requires : tie.Need-unquoted-stops-requires
 unquoted-stops-requires c κs = search needs
 
-returns : tie.Need-returns
-returns c = rw (c .before .if1 .taken) (c .plain-stops .ensures)
-
 returns-2 : tie.Need-returns-2
-returns-2 c = rw (c .before .if1 .left) (c .unquoted-stops .ensures)
+returns-2 c =
+    subst (λ (kind : ℕ → Bool). Stops kind (c .before .before .before .args .x) (c .unquoted-stops .result))
+    (sym (kind-unquoted (c .before .if2 .taken))) (c .unquoted-stops .ensures)
+
+plain-stops-requires : tie.Need-plain-stops-requires
+plain-stops-requires c κs = search needs
+
+returns-3 : tie.Need-returns-3
+returns-3 c =
+    subst (λ (kind : ℕ → Bool). Stops kind (c .before .before .before .args .x) (c .plain-stops .result))
+    (sym (kind-plain (c .before .before .if1 .left) (c .before .if2 .left))) (c .plain-stops .ensures)
 
 pub stops-spec : {M : Type 1} → statement M
-stops-spec = tie.close (tie.spec plain-stops-requires unquoted-stops-requires returns returns-2)
+stops-spec =
+    tie.close
+    (tie.spec
+    gap-stops-requires
+    returns
+    unquoted-stops-requires
+    returns-2
+    plain-stops-requires
+    returns-3)

@@ -133,23 +133,21 @@ shared-slice-read-bracket c = search needs
 enter-requires : tie.Need-enter-requires
 enter-requires c κs =
     let at-if2 = c .before .before .before .before .before .before .before .before .before .before .before .before .before .before in
-    let at-if1 = at-if2 .before in
-    let pre = at-if1 .before .before .before .before .pre in
-    (omega (arith, pre .1 .0), at-if2 .if2 .left, at-if1 .if1 .left)
+    (at-if2 .if2 .left, at-if2 .before .if1 .left)
 
 returns-6 : tie.Need-returns-6
 returns-6 c =
     let at-if5 = c .before .before .before .before .before .before in
     let at-class = at-if5 .before in
-    let at-skip-blanks = at-class .before .before .before in
+    let at-if4 = at-class .before .before in
+    let at-skip-blanks = at-if4 .before in
     let at-raise = at-skip-blanks .before .before .before in
     let at-framed = at-raise .before in
     let at-if2 = at-framed .before in
-    let at-if1 = at-if2 .before in
-    let pre = at-if1 .before .before .before .before .pre in
     record {
       onward =
-          onward-entered (c .enter .ensures) (pre .1 .0 .1) (at-if1 .if1 .left) (framed-fits _ (at-framed .framed .ensures) (at-if2 .if2 .left));
+          onward-entered (c .enter .ensures) (omega (arith, at-skip-blanks .skip-blanks .ensures .onward)) (omega (arith, at-if4 .if4 .left))
+          (at-if2 .before .if1 .left) (framed-fits _ (at-framed .framed .ensures) (at-if2 .if2 .left));
       keeps = λ x whole y.
           due-entered (c .enter .ensures)
           (items-due y (at-framed .framed .ensures) (at-raise .raise .ensures) (at-skip-blanks .skip-blanks .ensures)

@@ -17,16 +17,12 @@ element-write-waits c = search needs
 element-write-brackets : tie.Need-element-write-brackets
 element-write-brackets c = search needs
 
-add-first : tie.Need-add-first
-add-first c = search needs
-
 add-inner : tie.Need-add-inner
 add-inner c = search needs
 
 returns : tie.Need-returns
 returns c =
-    let at-push-frame = c .before in
-    record { pile-is = pile-same (at-push-frame .push-frame .ensures .0) (at-push-frame .push-frame .ensures .1); is = refl }
+    record { pile-is = pile-same (c .push-frame .ensures .0) (c .push-frame .ensures .1); is = refl }
 
 pub enter-spec : {M : Type 1} → statement M
 enter-spec =
@@ -36,6 +32,5 @@ enter-spec =
     mul-waits
     element-write-waits
     element-write-brackets
-    add-first
     add-inner
     returns)

@@ -1,21 +1,21 @@
--- `swar::string_bytes` meets its contract. The loop's invariant: all bytes from `at` to `i` are of the kind. Eight more are where none of them is
+-- `swar::run_bytes` meets its contract. The loop's invariant: all bytes from `at` to `i` are of the kind. Eight more are where none of them is
 -- marked; else those before the first that is, and that one is not. Assumes nothing.
 use Prim.Native.Nat.{ℕ, _-_, _<_}
 use native.Mathlib.Omega.{arith}
 use lib.ListN.{length, getD}
-use Rattle.swar.specs.Kinds.{stringKind}
+use Rattle.swar.specs.Kinds.{runKind}
 use Rattle.swar.specs.Run.{Passed}
 use Rattle.swar.specs.Passing.{at-start, passed-more, run-on, ends-at}
 use Rattle.swar.specs.Stops.{first-within, stops-none, stops-before, stops-at}
 use borrow.Author.Needs.{needs}
-use Rattle.swar.proofs.string_bytes.Statement.{statement}
-use Rattle.swar.proofs.string_bytes.Tie as tie
+use Rattle.swar.proofs.run_bytes.Statement.{statement}
+use Rattle.swar.proofs.run_bytes.Tie as tie
 
 abbrev Inv-loop : tie.InvT-loop
-Inv-loop s at strict i₀ i = Passed (stringKind strict) s at i
+Inv-loop s at kind i₀ i = Passed (runKind kind) s at i
 
 abbrev μ-loop : tie.MeasureT-loop
-μ-loop s at strict i₀ i = length s - i
+μ-loop s at kind i₀ i = length s - i
 
 loop-holds : tie.Need-loop-holds Inv-loop μ-loop
 loop-holds c = at-start (c .before .pre)
@@ -59,14 +59,14 @@ loop-again c =
     (stops-none (λ j. omega (arith, at .before .shared-slice-known .given j)) (c .before .before .load8 .ensures)
     (c .before .stops .ensures) (c .if1 .left))
 
-string-tail-requires : tie.Need-string-tail-requires Inv-loop μ-loop
-string-tail-requires c κs = search needs
+run-tail-requires : tie.Need-run-tail-requires Inv-loop μ-loop
+run-tail-requires c κs = search needs
 
 returns-2 : tie.Need-returns-2 Inv-loop μ-loop
-returns-2 c = run-on (c .before .before .loop .inv) (c .string-tail .ensures)
+returns-2 c = run-on (c .before .before .loop .inv) (c .run-tail .ensures)
 
-pub string-bytes-spec : {M : Type 1} → statement M
-string-bytes-spec =
+pub run-bytes-spec : {M : Type 1} → statement M
+run-bytes-spec =
     tie.close
     (tie.spec
     Inv-loop
@@ -81,5 +81,5 @@ string-bytes-spec =
     add-i
     loop-less
     loop-again
-    string-tail-requires
+    run-tail-requires
     returns-2)

@@ -1,0 +1,28 @@
+-- `swar::is_of` meets its contract: each of the three kinds has its own test. Assumes nothing.
+use mathlib.Core.Path.{sym, ap, _∙_}
+use mathlib.Core.Bool.{Bool}
+use Prim.Native.Nat.{ℕ}
+use Rattle.swar.specs.Kinds.{unquoted, gap}
+use Rattle.swar.specs.KindLaws.{kind-gap, kind-unquoted, kind-plain}
+use borrow.Author.Needs.{needs}
+use Rattle.swar.proofs.is_of.Statement.{statement}
+use Rattle.swar.proofs.is_of.Tie as tie
+
+returns : tie.Need-returns
+unfolding gap
+returns c = ap (λ (kind : ℕ → Bool). kind (c .before .args .b)) (sym (kind-gap (c .if1 .taken)))
+
+returns-2 : tie.Need-returns-2
+unfolding unquoted
+returns-2 c = ap (λ (kind : ℕ → Bool). kind (c .before .before .args .b)) (sym (kind-unquoted (c .if2 .taken)))
+
+is-plain-requires : tie.Need-is-plain-requires
+is-plain-requires c κs = search needs
+
+returns-3 : tie.Need-returns-3
+returns-3 c =
+    c .is-plain .ensures
+    ∙ ap (λ (kind : ℕ → Bool). kind (c .before .before .before .args .b)) (sym (kind-plain (c .before .before .if1 .left) (c .before .if2 .left)))
+
+pub is-of-spec : {M : Type 1} → statement M
+is-of-spec = tie.close (tie.spec returns returns-2 is-plain-requires returns-3)
