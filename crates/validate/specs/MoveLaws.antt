@@ -1,5 +1,5 @@
 -- Laws of the tables of moves. That the whole table leads where the machine goes is computed for every byte and every state.
-use mathlib.Core.Path.{_≡_, refl, ap, sym, subst, _∙_}
+use mathlib.Core.Path.{_≡_, refl, ap, ap₂, sym, subst, _∙_}
 use mathlib.Core.List.{List, [], _∷_, _++_}
 use mathlib.Core.Bool.{Bool, true, false, _&&_, _||_}
 use mathlib.Core.Option.{some}
@@ -9,7 +9,7 @@ use lib.Bits.{bitAnd, bitOr, and-le-r}
 use lib.Dec.{T, leb, ltb, eqb, leb→le, eqb→eq}
 use lib.ListN.{length, getD, set, replicate, length-set, getD-replicate}
 use lib.Seq.{getD-set-same, getD-set-other}
-use borrow.Author.Tests.{leb-true, ltb-true, ltb-false, eqb-true, eqb-false, le-leb, lt-leb, lt-ltb, le-ltb}
+use borrow.Author.Tests.{leb-true, ltb-true, ltb-false, eqb-true, eqb-false, le-leb, lt-leb, lt-ltb, le-ltb, ne-eqb}
 use Rattle.bits.specs.Truth.{and-left, and-right, allBelow, all-at}
 use Rattle.encoding.specs.Utf8.{rows}
 use Rattle.encoding.specs.RowTable.{RowIs}
@@ -38,27 +38,26 @@ pub added-then : {t t′ t″ : List ℕ} {ms ns : List Move} → Added ms t t�
 added-then {t} {t′} {t″} {ms} {ns} x y =
     record { long = y .long; each = λ b h. y .each b h ∙ ap (joined ns b) (x .each b h) ∙ sym (joined-then ms ns b (getD t b 0)) }
 
+-- the state after the second of so many bytes
+pub second-last : {n : ℕ} → (n ≡ 4 → ⊥) → (n ≡ 3 → ⊥) → 57 ≡ stateOf (afterSecond n)
+second-last {n} f t =
+    ap₂ (λ (x y : Bool). stateOf (elim x [ true ↦ point U.two | false ↦ elim y [ true ↦ point U.one | false ↦ between ] ]))
+    (sym (ne-eqb n 4 f)) (sym (ne-eqb n 3 t))
+
+pub second-same : {n k : ℕ} → n ≡ k → stateOf (afterSecond k) ≡ stateOf (afterSecond n)
+second-same e = ap (λ (k : ℕ). stateOf (afterSecond k)) (sym e)
+
 -- the two moves of a row
-row-bytes : ℕ → Bool
-row-bytes n = eqb ((rowAt rows (n + 1) .bytes - 1) * 6) (stateOf (afterSecond (rowAt rows (n + 1) .bytes)))
-
-second-state : (n : ℕ) → 1 ≤ n → n < 9 → (rowAt rows n .bytes - 1) * 6 ≡ stateOf (afterSecond (rowAt rows n .bytes))
-unfolding row-bytes rows allBelow
-second-state n h l =
-    let e : n - 1 + 1 ≡ n = omega arith in
-    rw e at (eqb→eq ((rowAt rows (n - 1 + 1) .bytes - 1) * 6) (stateOf (afterSecond (rowAt rows (n - 1 + 1) .bytes)))
-    (all-at 8 row-bytes tt (n - 1) (omega arith)))
-
-pub row-added : {n low high least most bytes state : ℕ} {t t′ t″ : List ℕ} → 1 ≤ n → n < 9 → RowIs n low high least most bytes
-    → MoveAdded low high 6 state t t′ → MoveAdded least most state ((bytes - 1) * 6) t′ t″ → RowAdded n state t t″
-row-added {n} {low} {high} {least} {most} {bytes} {state} {t} {t′} {t″} h l r x y =
+pub row-added : {n low high least most bytes state second : ℕ} {t t′ t″ : List ℕ} → RowIs n low high least most bytes
+    → MoveAdded low high 57 state t t′ → second ≡ stateOf (afterSecond bytes) → MoveAdded least most state second t′ t″ → RowAdded n state t t″
+row-added {n} {low} {high} {least} {most} {bytes} {state} {second} {t} {t′} {t″} r x q y =
     record {
       long = y .long;
       leads-to = λ p e.
           added-then
           (added-one (move (rowAt rows n .low) (rowAt rows n .high) between p) (rw (r .low-is, r .high-is, e) at x))
           (added-one (move (rowAt rows n .second-low) (rowAt rows n .second-high) p (afterSecond (rowAt rows n .bytes)))
-          (rw (r .least-is, r .most-is, r .bytes-are, e, second-state n h l) at y));
+          (rw (r .least-is, r .most-is, q ∙ sym (second-same (r .bytes-are)), e) at y));
     }
 
 -- a move that the machine makes
@@ -115,7 +114,7 @@ leadsTo (m ∷ ms) p b r =
 
 -- a stand by its state
 stands : List Stand
-stands = between ∷ point U.one ∷ point U.two ∷ point U.three ∷ point U.after-e0 ∷ point U.after-ed ∷ point U.after-f0 ∷ point U.after-f4 ∷ escape ∷ []
+stands = point U.one ∷ point U.two ∷ point U.three ∷ point U.after-e0 ∷ point U.after-ed ∷ point U.after-f0 ∷ point U.after-f4 ∷ escape ∷ between ∷ []
 
 standOf : ℕ → Stand
 standOf n = getD stands (n / 6 - 1) between
@@ -257,11 +256,18 @@ arrived-on {s} {i} {j} (came p l) h x = by (x .somewhere p refl)
     by M.lost = M.lost
     by (went q g) = came q (λ f. led-go (l f) (inside q f) h (g f))
 
--- between two characters the machine has read whole ones
-arrived-between : {s : List ℕ} {i j r : ℕ} → Arrived s i j r → r ≡ 6 → Characters s i j
-arrived-between {s} {i} {j} M.lost e = absurd (omega arith)
-arrived-between {s} {i} {j} (came q l) e =
-    record { led = subst (λ p. (f : Bool) → Led s i (inString f) (inside p f) true j) (same-stand q between e) l }
+-- the only odd state is that between two characters, where the machine has read whole ones
+arrived-between : {s : List ℕ} {i j r : ℕ} → Arrived s i j r → bitAnd r 1 ≡ 1 → Characters s i j
+arrived-between M.lost e = absurd (omega arith)
+arrived-between (came between l) e = record { led = l }
+arrived-between (came escape l) e = absurd (omega arith)
+arrived-between (came (point U.one) l) e = absurd (omega arith)
+arrived-between (came (point U.two) l) e = absurd (omega arith)
+arrived-between (came (point U.three) l) e = absurd (omega arith)
+arrived-between (came (point U.after-e0) l) e = absurd (omega arith)
+arrived-between (came (point U.after-ed) l) e = absurd (omega arith)
+arrived-between (came (point U.after-f0) l) e = absurd (omega arith)
+arrived-between (came (point U.after-f4) l) e = absurd (omega arith)
 
 pub characters-none : {s : List ℕ} {i : ℕ} → i ≤ length s → Characters s i i
 characters-none {s} {i} h = record { led = λ f. led-here s i (inString f) h }
@@ -270,7 +276,7 @@ pub characters-then : {s : List ℕ} {i j k : ℕ} → Characters s i j → Char
 characters-then x y = record { led = λ f. led-on (x .led f) (y .led f) }
 
 -- a reader at its start
-pub reader-start : {s : List ℕ} {a : ℕ} → a ≤ length s → Reader s a a 6 a
+pub reader-start : {s : List ℕ} {a : ℕ} → a ≤ length s → Reader s a a 57 a
 reader-start {s} {a} h =
     record { small = omega arith; within = h; whole = characters-none h; arrived = came between (λ f. led-here s a (inString f) h) }
 
@@ -283,7 +289,7 @@ module _ {s : List ℕ} {i state e r : ℕ} (h : i < length s) (y : Follows (get
         on = λ a x. record { small = y .small; within = omega arith; whole = x .whole; arrived = arrived-on (x .arrived) h y };
       }
 
-  pub passes-between : r ≡ 6 → Passes s i state e r (i + 1)
+  pub passes-between : bitAnd r 1 ≡ 1 → Passes s i state e r (i + 1)
   passes-between q =
       record {
         small = y .small;

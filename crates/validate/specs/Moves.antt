@@ -25,17 +25,17 @@ inside between f = inString f
 inside escape f = escaping f
 inside (point d) f = tails d f
 
--- its state: the first of its bits in a word
+-- its state: the first of its bits in a word, odd between two characters alone
 abbrev pub stateOf : Stand → ℕ
-stateOf between = 6
-stateOf (point U.one) = 12
-stateOf (point U.two) = 18
-stateOf (point U.three) = 24
-stateOf (point U.after-e0) = 30
-stateOf (point U.after-ed) = 36
-stateOf (point U.after-f0) = 42
-stateOf (point U.after-f4) = 48
-stateOf escape = 54
+stateOf (point U.one) = 6
+stateOf (point U.two) = 12
+stateOf (point U.three) = 18
+stateOf (point U.after-e0) = 24
+stateOf (point U.after-ed) = 30
+stateOf (point U.after-f0) = 36
+stateOf (point U.after-f4) = 42
+stateOf escape = 48
+stateOf between = 57
 
 -- the machine goes from p to q by the byte b
 abbrev pub Goes : (p : Stand) (b : ℕ) (q : Stand) → Type 0

@@ -3,29 +3,30 @@ ghost use mathlib.Core.Path.{_≡_};
 ghost use Prim.Native.Nat.{_≤_, _<_};
 ghost use lib.ListN.{length};
 ghost use Rattle.encoding.specs.RowTable.{RowTable};
-ghost use Rattle.validate.specs.Moves.{MoveAdded, Added, plainMoves, escapeMoves, RowAdded, pointMoves, Leads, Follows, Passes, Characters};
+ghost use Rattle.validate.specs.Moves.{MoveAdded, Added, plainMoves, escapeMoves, stateOf, afterSecond, RowAdded, pointMoves};
+ghost use Rattle.validate.specs.Moves.{Leads, Follows, Passes, Characters};
 
-// The states, by the first of their bits in a word: nowhere, and between two characters; with one, two or three bytes from 80 to BF due;
-// after a first byte whose second byte has bounds of its own; after a backslash.
+// The states, by the first of their bits in a word: nowhere; with one, two or three bytes from 80 to BF due; after a first byte whose
+// second byte has bounds of its own; after a backslash; and between two characters, the only odd number, so that its lowest bit tells it.
 const NOWHERE: u64 = 0;
 
-const BETWEEN: u64 = 6;
+const ONE_DUE: u64 = 6;
 
-const ONE_DUE: u64 = 12;
+const TWO_DUE: u64 = 12;
 
-const TWO_DUE: u64 = 18;
+const THREE_DUE: u64 = 18;
 
-const THREE_DUE: u64 = 24;
+const AFTER_E0: u64 = 24;
 
-const AFTER_E0: u64 = 30;
+const AFTER_ED: u64 = 30;
 
-const AFTER_ED: u64 = 36;
+const AFTER_F0: u64 = 36;
 
-const AFTER_F0: u64 = 42;
+const AFTER_F4: u64 = 42;
 
-const AFTER_F4: u64 = 48;
+const ESCAPE: u64 = 48;
 
-const ESCAPE: u64 = 54;
+const BETWEEN: u64 = 57;
 
 // The bits of a state.
 const STATE: u64 = 63;
@@ -79,15 +80,27 @@ fn add_escapes(table: &mut [u64; 256])
     add_move(table, b't', b't', ESCAPE, BETWEEN);
 }
 
+// The state after the second of so many bytes.
+fn after_second(bytes: u8) -> u64
+    ensures { λ r. ⌜ r ≡ stateOf (afterSecond bytes) ⌝ }
+{
+    if bytes == 4 {
+        return TWO_DUE;
+    }
+    if bytes == 3 {
+        return ONE_DUE;
+    }
+    BETWEEN
+}
+
 // Adds the moves of a row of UTF-8: its first bytes lead to `state`, and from there its second bytes to where the others are due.
 fn add_row(table: &mut [u64; 256], rows: &[u8; 45], n: usize, state: u64)
-    requires { ⌜ (length (now table) ≡ 256) × RowTable (now rows) × (1 ≤ n) × (n < 9) × (state < 64) ⌝ }
+    requires { ⌜ (length (now table) ≡ 256) × RowTable (now rows) × (n < 9) × (state < 64) ⌝ }
     ensures { λ _. ⌜ RowAdded n state (now (table .entry)) (now (table .exit)) ⌝ }
 {
     let row = encoding::row_at(rows, n);
     add_move(table, row.low, row.high, BETWEEN, state);
-    let left = (row.bytes - 1) as u64;
-    add_move(table, row.least, row.most, state, left * BETWEEN);
+    add_move(table, row.least, row.most, state, after_second(row.bytes));
 }
 
 // Adds the moves of the rows of UTF-8 after the first.
@@ -128,13 +141,13 @@ fn follow(table: &[u64; 256], b: u8, state: u64) -> u64
     table[b as usize] >> state & STATE
 }
 
-// The reader after the byte at `i`.
+// The reader after the byte at `i`. The lowest bit of its state tells whether a character ends there, and does not wait for the mask.
 fn pass(table: &[u64; 256], s: &[u8], i: usize, before: Reader) -> Reader
     requires { ⌜ Leads (now table) × (i < length (now s)) × (before .state < 64) ⌝ }
     ensures { λ r. ⌜ Passes (now (s .entry)) i (before .state) (before .end) (r .state) (r .end) ⌝ }
 {
     let state = follow(table, s[i], before.state);
-    if state == BETWEEN {
+    if state & 1 == 1 {
         return Reader { state, end: i + 1 };
     }
     Reader {

@@ -1,5 +1,5 @@
--- `validate::moves::pass` meets its contract: after the byte the reader is after a whole character, or its end stays.
--- Assumes nothing.
+-- `validate::moves::pass` meets its contract: after the byte the reader is after a whole character, as only an odd state tells, or its end
+-- stays. Assumes nothing.
 use Rattle.validate.specs.MoveLaws.{passes-inside, passes-between}
 use borrow.Author.Needs.{needs}
 use Rattle.validate.proofs.moves.pass.Statement.{statement}
@@ -11,8 +11,8 @@ shared-slice-read-follow c = search needs
 follow-requires : tie.Need-follow-requires
 follow-requires c κs = search needs
 
-add-t9 : tie.Need-add-t9
-add-t9 c = search needs
+add-t10 : tie.Need-add-t10
+add-t10 c = search needs
 
 returns : tie.Need-returns
 returns c = passes-between (c .before .before .before .before .pre .1) (c .before .follow .ensures) (c .if1 .taken)
@@ -21,4 +21,4 @@ returns-2 : tie.Need-returns-2
 returns-2 c = passes-inside (c .before .before .before .before .pre .1) (c .before .follow .ensures)
 
 pub pass-spec : {M : Type 1} → statement M
-pass-spec = tie.close (tie.spec shared-slice-read-follow follow-requires add-t9 returns returns-2)
+pass-spec = tie.close (tie.spec shared-slice-read-follow follow-requires add-t10 returns returns-2)
