@@ -309,3 +309,23 @@ pub fn digit_words(s: &[u8], at: usize) -> usize
     }
     i
 }
+
+// Whether a point is among eight bytes. Nothing rests on the answer but how fast a number is read.
+fn has_point(x: u64) -> bool {
+    minus(x ^ 0x2e2e2e2e2e2e2e2e, EACH) & (x ^ ALL) & HIGHEST != 0
+}
+
+// A place from `at` on up to which there are digits: all of those that stand there, up to eight, where a point is near, and else none.
+pub fn digits_to_point(s: &[u8], at: usize) -> usize
+    requires { ⌜ at ≤ length (now s) ⌝ }
+    ensures { λ r. ⌜ Passed digit (now (s .entry)) at r ⌝ }
+{
+    if s.len() - at < 8 {
+        return at;
+    }
+    let x = bits::load8(s, at);
+    if !has_point(x) {
+        return at;
+    }
+    at + zero_bytes(digit_stops(x))
+}

@@ -1,18 +1,19 @@
 -- Numbers (RFC 8259 §6) as the record grammar's machine takes them.
 use mathlib.Core.Path.{_≡_, refl, ap, sym, _∙_}
 use mathlib.Core.List.{List, [], _∷_, _++_, append-assoc}
-use mathlib.Core.Bool.{Bool, true, false}
+use mathlib.Core.Bool.{Bool, true, false, not}
 use mathlib.Core.Logic.{_⊎_, inl, inr}
 use mathlib.Core.Option.{Option, some, none}
 use Prim.Native.Nat.{ℕ, _+_, _≤_, _<_}
 use native.Mathlib.Omega.{arith}
 use lib.Dec.{leb}
 use lib.ListN.{length, getD}
-use borrow.Author.Tests.{leb-true, leb-false}
+use borrow.Author.Tests.{leb-true, leb-false, not-true, not-false}
 use Rattle.encoding.specs.BytesLaws.{beneath, beyond}
 use Rattle.encoding.specs.BytesLaws as BytesLaws
 use Rattle.swar.specs.Kinds.{digit}
 use Rattle.swar.specs.Run.{Passed, Run}
+use Rattle.swar.specs.Passing.{one-more}
 use Rattle.json.specs.Grammar.{Kind, array}
 use Rattle.json.specs.Room.{Room, endless}
 use Rattle.json.specs.Machine.{Ctl, item, after, afterMinus, afterZero, inInt, afterPoint, inFrac, afterE, afterSign, inExp, Stack, top, at, dead, Rule, one, span, exponentRules, afterRules, rules, step, final}
@@ -56,6 +57,22 @@ module _ (b : ℕ) where
       by : NoDigit b ⊎ ((0x30 ≤ b) × (b ≤ 0x39)) → NoDigit b
       by (inl n) = n
       by (inr d) = let z : true ≡ false = sym (digit-holds (d .0) (d .1)) ∙ e in let y : _≡_ {A = ℕ} 0 1 = cc in absurd (omega arith)
+
+-- whether a digit stands at place i
+pub record DigitAt (s : List ℕ) (i : ℕ) (r : Bool) : Type 0 where
+  pub inside : r ≡ true → i < length s
+  pub is : i < length s → digit (getD s i 0) ≡ r
+
+-- a run of digits goes on with one, and ends where none stands
+module _ {s : List ℕ} {i : ℕ} {r : Bool} (d : DigitAt s i r) where
+  pub digit-inside : not r ≡ false → i < length s
+  digit-inside e = d .inside (not-false r e)
+
+  pub digit-more : {from : ℕ} → Passed digit s from i → not r ≡ false → Passed digit s from (i + 1)
+  digit-more p e = one-more p (digit-inside e) (d .is (digit-inside e) ∙ not-false r e)
+
+  pub digits-stop : {from : ℕ} → Passed digit s from i → not r ≡ true → Run digit s from i
+  digits-stop p e = record { passed = p; stop = λ h. d .is h ∙ not-true r e }
 
 -- the control states in which digits keep the machine
 pub data Digit : Ctl → Type 0 where

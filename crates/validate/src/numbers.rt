@@ -8,7 +8,7 @@ ghost use Rattle.swar.specs.Run.{Run};
 ghost use Rattle.json.specs.Machine.{after, afterE, afterSign};
 ghost use Rattle.json.specs.Led.{Led};
 ghost use Rattle.validate.specs.Among.{Among};
-ghost use Rattle.validate.specs.Numbers.{Exponent, Fraction, Number, WholePart};
+ghost use Rattle.validate.specs.Numbers.{DigitAt, Exponent, Fraction, Number, WholePart};
 use crate::words;
 use encoding::Scan;
 
@@ -26,22 +26,46 @@ const ZERO: u8 = 0x30;
 
 const NINE: u8 = 0x39;
 
-// The place after the digits that stand from `from` on.
+// Whether a digit stands at `at`.
+fn digit_at(s: &[u8], at: usize) -> bool
+    ensures { λ r. ⌜ DigitAt (now (s .entry)) at r ⌝ }
+{
+    if at >= s.len() {
+        return false;
+    }
+    if s[at] < ZERO {
+        return false;
+    }
+    if s[at] > NINE {
+        return false;
+    }
+    true
+}
+
+// The place after the digits that stand from `from` on. They are asked four in a turn: few numbers have more, and each has its own branch.
 fn digits_end(s: &[u8], from: usize) -> usize
     requires { ⌜ from ≤ length (now s) ⌝ }
     ensures { λ r. ⌜ Run digit (now (s .entry)) from r ⌝ }
 {
     let mut i = from;
-    while i < s.len() {
-        if s[i] < ZERO {
+    loop {
+        if !digit_at(s, i) {
             return i;
         }
-        if s[i] > NINE {
-            return i;
+        let second = i + 1;
+        if !digit_at(s, second) {
+            return second;
         }
-        i += 1;
+        let third = second + 1;
+        if !digit_at(s, third) {
+            return third;
+        }
+        let fourth = third + 1;
+        if !digit_at(s, fourth) {
+            return fourth;
+        }
+        i = fourth + 1;
     }
-    i
 }
 
 // The place after the digits that stand from `from` on, of which there may be many.
@@ -143,7 +167,8 @@ fn whole_end(s: &[u8], at: usize) -> usize
     if s[at] == ZERO {
         return at + 1;
     }
-    digits_end(s, at)
+    let left = swar::digits_to_point(s, at);
+    digits_end(s, left)
 }
 
 // Reads a number that has no sign, or what follows its sign.
