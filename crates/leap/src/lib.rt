@@ -17,8 +17,10 @@ ghost use Rattle.leap.specs.Passing.{After, Cleared, Apart, Finds, Leads
 
 const BLOCK: usize = 64;
 
-// The bytes of eight blocks.
+// The bytes of eight blocks, and of those before the last of them, at which one looks ahead: a container of fewer is left without a look.
 const AHEAD: usize = 512;
+
+const LOOK: usize = 448;
 
 // How many bytes are passed one by one before the first block is sorted.
 const HEAD: usize = 16;
@@ -179,7 +181,7 @@ fn leave_blocks(record: &[u8], at: usize, start: Standing) -> usize
     let mut odd = start.odd;
     let mut depth = start.depth;
     while i < record.len() {
-        let look = (i - at) % AHEAD == 0;
+        let look = (i - at) % AHEAD == LOOK;
         let w = next_words(&record[i..], look, inside, odd);
         let found = pass_block(w.opening, w.closing, depth);
         let place = found.place;
