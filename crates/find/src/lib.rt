@@ -2,6 +2,7 @@
 use encoding::class;
 use encoding::classes;
 use leap::leave;
+use leap::none_kept;
 use scan::enter_item;
 use scan::scalar_end;
 use scan::skip_blanks;
@@ -59,7 +60,8 @@ fn value_end(classes: &[u8; 256], record: &[u8], at: usize) -> usize
         return at;
     }
     if class(classes, record[at]) == OPENING {
-        return leave(classes, record, at + 1);
+        let mut kept = none_kept();
+        return leave(record, at + 1, &mut kept);
     }
     scalar_end(classes, record, at)
 }

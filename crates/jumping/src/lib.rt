@@ -1,5 +1,7 @@
 // The jumping walk: one loop over an explicit pile of frames, which goes straight to the end of a dead container.
 use encoding::classes;
+use leap::KEPT;
+use leap::none_kept;
 use marks::advance;
 use pairs::Counts;
 use pile::Coming;
@@ -18,6 +20,7 @@ ghost use Prim.Native.Nat.{_≤_};
 ghost use lib.ListN.{length};
 ghost use Rattle.encoding.specs.ClassTable.{ClassTable};
 ghost use Rattle.json.specs.Verdict.{maxBytes, maxDepth};
+ghost use Rattle.leap.specs.Passing.{Kept};
 ghost use Rattle.marks.specs.Advances.{Fits};
 ghost use Rattle.walk.specs.Walks.{Walks};
 ghost use Rattle.jumping.specs.Pile.{pile};
@@ -154,21 +157,35 @@ fn turn(
     held: &mut [u16; MAX_DEPTH],
     waits: &mut [usize; MAX_DEPTH],
     brackets: &mut [u8; MAX_DEPTH],
+    block: &mut [u64; KEPT],
 ) -> Standing
     requires { ⌜ ClassTable (now classes) ⌝ }
     requires { ⌜ Fits (now query) steps ⌝ }
     requires { ⌜ (length (now «record») ≤ maxBytes) × (a .at ≤ length (now «record»)) ⌝ }
     requires { ⌜ (a .depth ≤ maxDepth) × (a .frames ≤ maxDepth) × (a .item ≡ false → a .depth ≡ 0 → ⊥) ⌝ }
+    requires { ⌜ Kept (now «record») (now block) ⌝ }
     ensures { λ r. ⌜ Turns (now (query .entry)) steps (now («record» .entry))
         (pile (now (levels .entry)) (now (held .entry)) (now (waits .entry)) (now (brackets .entry)))
         (pile (now (levels .exit)) (now (held .exit)) (now (waits .exit)) (now (brackets .exit)))
         (now (list .entry)) (now (list .exit)) a r ⌝ }
+    ensures { λ _. ⌜ Kept (now («record» .entry)) (now (block .exit)) ⌝ }
 {
     if !a.item {
         return past(record, a, list, levels, held, waits);
     }
     let v = coming(query, steps, record, a, brackets);
-    value(classes, record, v, a, list, levels, held, waits, brackets)
+    value(
+        classes,
+        record,
+        v,
+        a,
+        list,
+        levels,
+        held,
+        waits,
+        brackets,
+        block,
+    )
 }
 
 // Lists the nodes of a checked record that a query picks out, and counts frames, by the jumping walk: what the list holds and the counts
@@ -183,6 +200,7 @@ pub fn walk_jumping(query: &[u8], steps: Compiled, record: &[u8], list: &mut [u3
     let mut held: [u16; MAX_DEPTH] = [0; MAX_DEPTH];
     let mut waits: [usize; MAX_DEPTH] = [0; MAX_DEPTH];
     let mut brackets: [u8; MAX_DEPTH] = [0; MAX_DEPTH];
+    let mut block = none_kept();
     let mut a = start(record, steps.count);
     loop {
         a = turn(
@@ -196,6 +214,7 @@ pub fn walk_jumping(query: &[u8], steps: Compiled, record: &[u8], list: &mut [u3
             &mut held,
             &mut waits,
             &mut brackets,
+            &mut block,
         );
         let depth = a.depth;
         if depth == 0 {

@@ -4,6 +4,7 @@ use super::pile::MAX_DEPTH;
 use super::pile::Standing;
 use super::pile::push_frame;
 use encoding::class;
+use leap::KEPT;
 use leap::leave;
 use marks::framed;
 use pairs::begin;
@@ -15,6 +16,7 @@ ghost use Prim.Native.Nat.{_≤_, _<_};
 ghost use lib.ListN.{length};
 ghost use Rattle.encoding.specs.ClassTable.{ClassTable};
 ghost use Rattle.json.specs.Verdict.{maxBytes, maxDepth};
+ghost use Rattle.leap.specs.Passing.{Kept};
 ghost use Rattle.jumping.specs.Pile.{pile};
 ghost use Rattle.jumping.specs.Turns.{Lost, PassedTo, EnteredAt, Skipped, PassesValue, PassesContainer};
 
@@ -119,14 +121,17 @@ fn container(
     held: &mut [u16; MAX_DEPTH],
     waits: &mut [usize; MAX_DEPTH],
     brackets: &mut [u8; MAX_DEPTH],
+    block: &mut [u64; KEPT],
 ) -> Standing
     requires { ⌜ ClassTable (now classes) ⌝ }
     requires { ⌜ (length (now «record») ≤ maxBytes) × (v .at < length (now «record»)) ⌝ }
     requires { ⌜ (a .depth ≤ maxDepth) × (a .frames ≤ maxDepth) ⌝ }
+    requires { ⌜ Kept (now «record») (now block) ⌝ }
     ensures { λ r. ⌜ PassesContainer (now («record» .entry))
         (pile (now (levels .entry)) (now (held .entry)) (now (waits .entry)) (now (brackets .entry)))
         (pile (now (levels .exit)) (now (held .exit)) (now (waits .exit)) (now (brackets .exit)))
         (now (list .entry)) (now (list .exit)) v wait a r ⌝ }
+    ensures { λ _. ⌜ Kept (now («record» .entry)) (now (block .exit)) ⌝ }
 {
     let at = v.at;
     let marks = v.marks;
@@ -150,7 +155,7 @@ fn container(
         stop: a.stop,
     };
     if is_dead(marks, a.stop) {
-        let end = leave(classes, record, at + 1);
+        let end = leave(record, at + 1, block);
         return pass(list, wait, end, b);
     }
     let first = skip_blanks(record, at + 1);
@@ -186,14 +191,17 @@ pub fn value(
     held: &mut [u16; MAX_DEPTH],
     waits: &mut [usize; MAX_DEPTH],
     brackets: &mut [u8; MAX_DEPTH],
+    block: &mut [u64; KEPT],
 ) -> Standing
     requires { ⌜ ClassTable (now classes) ⌝ }
     requires { ⌜ (length (now «record») ≤ maxBytes) × (v .at ≤ length (now «record»)) ⌝ }
     requires { ⌜ (a .depth ≤ maxDepth) × (a .frames ≤ maxDepth) ⌝ }
+    requires { ⌜ Kept (now «record») (now block) ⌝ }
     ensures { λ r. ⌜ PassesValue (now («record» .entry))
         (pile (now (levels .entry)) (now (held .entry)) (now (waits .entry)) (now (brackets .entry)))
         (pile (now (levels .exit)) (now (held .exit)) (now (waits .exit)) (now (brackets .exit)))
         (now (list .entry)) (now (list .exit)) v a r ⌝ }
+    ensures { λ _. ⌜ Kept (now («record» .entry)) (now (block .exit)) ⌝ }
 {
     let at = v.at;
     if at >= record.len() {
@@ -226,5 +234,6 @@ pub fn value(
         held,
         waits,
         brackets,
+        block,
     )
 }

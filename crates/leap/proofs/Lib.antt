@@ -1,3 +1,3 @@
-pub mod Bytes
 pub mod Words
 pub mod Ways
+pub mod Kept

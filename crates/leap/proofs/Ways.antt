@@ -1,7 +1,7 @@
--- On the way to the closing bracket the two facts and the depth are those of the definition, byte by byte and block by block;
--- the place where the depth falls to 0 is then the only one. Assumes nothing.
+-- On the way to the closing bracket the two facts and the depth are those of the definition, block by block; the place where the depth
+-- falls to 0 is then the only one. Assumes nothing.
 use mathlib.Core.Path.{_≡_, refl, sym, ap, ap₂, subst, _∙_}
-use mathlib.Core.Bool.{Bool, true, false, not, xor, _&&_, _||_, false≢true}
+use mathlib.Core.Bool.{Bool, true, false, not, _&&_, _||_, false≢true}
 use mathlib.Core.List.{List, []}
 use mathlib.Core.Logic.{⊎-elim}
 use Prim.Native.Nat.{ℕ, suc, _+_, _-_, _<_, _≤_}
@@ -13,15 +13,15 @@ use lib.Seq.{drop-drop, take-all}
 use borrow.Author.Tests.{eqb-true}
 use Rattle.bits.specs.Bits.{bit}
 use Rattle.bits.specs.Laws.{lt-or-ge}
-use Rattle.blocks.specs.Words.{byteAt, isBackslash, oddBefore, realQuote, oddQuotes, inString, opensAt, closesAt, blockSize, openingWord, closingWord}
-use Rattle.blocks.specs.Laws.{Carried, size-full, size-short, inside-full, odd-full, opening-bit, closing-bit, opening-past, closing-past, byte-drop, odd-drop, quotes-drop}
+use Rattle.blocks.specs.Words.{byteAt, oddBefore, oddQuotes, inString, opensAt, closesAt, blockSize, openingWord, closingWord}
+use Rattle.blocks.specs.Laws.{Carried, size-full, size-short, inside-full, odd-full, opening-bit, closing-bit, opening-past, closing-past, odd-drop, quotes-drop}
 use Rattle.blocks.specs.Sorted.{Sorted}
 use Rattle.blocks.specs.declared.Words.{Words}
 use Rattle.json.specs.Grammar.{putItems}
-use Rattle.leap.specs.Brackets.{afterPlace, depthAt, depthIn, Closed, Leaves}
-use Rattle.leap.specs.BracketLaws.{after-le, depth-none-at, depth-calm, depth-same, depth-drop, closed-at, closed-once}
+use Rattle.leap.specs.Brackets.{depthAt, depthIn, Closed, Leaves}
+use Rattle.leap.specs.BracketLaws.{depth-none-at, depth-calm, depth-same, depth-drop, closed-at, closed-once}
 use Rattle.leap.specs.ContainerEnds.{items-closed}
-use Rattle.leap.specs.Passing.{After, Apart, Finds, Leads}
+use Rattle.leap.specs.Passing.{Apart, Finds, Leads}
 
 -- ---- what holds at a place
 
@@ -35,23 +35,6 @@ unfolding oddQuotes oddBefore depthIn
 stands-start inside odd s n = record { carried = record { quoted-is = refl; escaped-is = refl }; depth-is = refl }
 
 module _ {inside₀ odd₀ : Bool} {s : List ℕ} {n₀ p : ℕ} {inside odd : Bool} {n : ℕ} (v : Stands inside₀ odd₀ s n₀ p inside odd n) where
-  -- one byte further
-  stands-byte : {b n′ : ℕ} {inside′ odd′ : Bool} → byteAt s p ≡ b → After b inside odd n inside′ odd′ n′ → Stands inside₀ odd₀ s n₀ (suc p) inside′ odd′ n′
-  unfolding oddQuotes oddBefore realQuote isBackslash inString depthIn depthAt opensAt closesAt
-  stands-byte {b} {n′} {inside′} {odd′} e a =
-      let q : oddQuotes inside₀ odd₀ s (suc p) ≡ inside′ =
-      ap₂ xor (ap₂ (λ (x : ℕ) (y : Bool). eqb x 0x22 && not y) e (v .carried .escaped-is)) (v .carried .quoted-is) ∙ sym (a .inside-is) in
-      record {
-        carried = record {
-          quoted-is = q;
-          escaped-is = ap₂ (λ (x : ℕ) (y : Bool). eqb x 0x5C && not y) e (v .carried .escaped-is) ∙ sym (a .odd-is);
-        };
-        depth-is =
-            ap₂ (λ (x : ℕ) (y : Bool). afterPlace ((eqb x 0x5B || eqb x 0x7B) && not y) ((eqb x 0x5D || eqb x 0x7D) && not y) (depthIn inside₀ odd₀ s n₀ p)) e q
-            ∙ ap (afterPlace ((eqb b 0x5B || eqb b 0x7B) && not inside′) ((eqb b 0x5D || eqb b 0x7D) && not inside′)) (v .depth-is)
-            ∙ sym (a .depth-is);
-      }
-
   -- from here on
   stands-on : (j : ℕ) → depthIn inside odd (drop p s) n j ≡ depthIn inside₀ odd₀ s n₀ (p + j)
   stands-on j =
@@ -70,40 +53,30 @@ module _ {inside₀ odd₀ : Bool} {s : List ℕ} {n₀ p : ℕ} {inside odd : B
         absurd (omega (arith, v .depth-is)))
         (lt-or-ge p e)
 
-    closed-on : Closed inside odd (drop p s) n (e - p)
-    closed-on =
-        let l = end-ahead in
-        let z : p + (e - p) ≡ e = omega (arith, end-ahead) in
-        record {
-          within = omega (arith, c .within, length-drop p s);
-          is-zero = stands-on (e - p) ∙ ap (depthIn inside₀ odd₀ s n₀) z ∙ c .is-zero;
-          no-zero-before = λ j h x. c .no-zero-before (p + j) (omega arith) (sym (stands-on j) ∙ x);
-        }
+-- ---- the invariant of the loop
 
--- ---- the invariant of both loops
-
--- from `at` on, where the facts are inside₀ and odd₀ and n₀ brackets are open, place i is reached with a bracket still open
-pub record Tracked (s : List ℕ) (at : ℕ) (inside₀ odd₀ : Bool) (n₀ i : ℕ) (inside odd : Bool) (n : ℕ) : Type 0 where
+-- from `at` on, just behind an opening bracket, place i is reached with a bracket still open
+pub record Tracked (s : List ℕ) (at i : ℕ) (inside odd : Bool) (n : ℕ) : Type 0 where
   pub onward : at ≤ i
   pub within : at ≤ length s → i ≤ length s
-  pub few : n + at ≤ n₀ + i
+  pub few : n + at ≤ 1 + i
   pub some : 1 ≤ n
-  pub stands : Stands inside₀ odd₀ (drop at s) n₀ (i - at) inside odd n
+  pub stands : Stands false false (drop at s) 1 (i - at) inside odd n
 
-pub tracked-start : {s : List ℕ} {at : ℕ} {inside odd : Bool} {n : ℕ} → 1 ≤ n → Tracked s at inside odd n at inside odd n
-tracked-start {s} {at} {inside} {odd} {n} h =
+pub tracked-start : {s : List ℕ} {at : ℕ} → Tracked s at at false false 1
+tracked-start {s} {at} =
     let z : 0 ≡ at - at = omega arith in
     record {
       onward = omega arith;
       within = λ l. l;
       few = omega arith;
-      some = h;
-      stands = subst (λ (p : ℕ). Stands inside odd (drop at s) n p inside odd n) z (stands-start inside odd (drop at s) n);
+      some = omega arith;
+      stands = subst (λ (p : ℕ). Stands false false (drop at s) 1 p false false 1) z (stands-start false false (drop at s) 1);
     }
 
-module _ {s : List ℕ} {at : ℕ} {inside₀ odd₀ : Bool} {n₀ i : ℕ} {inside odd : Bool} {n : ℕ} (v : Tracked s at inside₀ odd₀ n₀ i inside odd n) where
+module _ {s : List ℕ} {at i : ℕ} {inside odd : Bool} {n : ℕ} (v : Tracked s at i inside odd n) where
   -- the record ends first
-  pub tracked-out : length s ≤ i → Leads s at inside₀ odd₀ n₀ i
+  pub tracked-out : length s ≤ i → Leads s at i
   tracked-out h = record {
     onward = v .onward;
     within = v .within;
@@ -114,51 +87,9 @@ module _ {s : List ℕ} {at : ℕ} {inside₀ odd₀ : Bool} {n₀ i : ℕ} {ins
   here : drop (i - at) (drop at s) ≡ drop i s
   here = let z : at + (i - at) ≡ i = omega (arith, v .onward) in drop-drop (i - at) at s ∙ ap (λ (x : ℕ). drop x s) z
 
-  here-byte : byteAt (drop at s) (i - at) ≡ byteAt s i
-  here-byte = let z : at + (i - at) ≡ i = omega (arith, v .onward) in byte-drop s false false at (i - at) ∙ ap (byteAt s) z
-
-  module _ (in-it : i < length s) {inside′ odd′ : Bool} {n′ : ℕ} (a : After (byteAt s i) inside odd n inside′ odd′ n′) where
-    next-stands : Stands inside₀ odd₀ (drop at s) n₀ (suc (i - at)) inside′ odd′ n′
-    next-stands = stands-byte (v .stands) here-byte a
-
-    next-place : suc (i - at) ≡ i + 1 - at
-    next-place = omega (arith, v .onward)
-
-    pub tracked-byte : (n′ ≡ 0 → ⊥) → Tracked s at inside₀ odd₀ n₀ (i + 1) inside′ odd′ n′
-    tracked-byte some = record {
-      onward = omega (arith, v .onward);
-      within = λ l. omega arith;
-      few = omega (arith, v .few, a .depth-is, after-le ((eqb (byteAt s i) 0x5B || eqb (byteAt s i) 0x7B) && not inside′) ((eqb (byteAt s i) 0x5D || eqb (byteAt s i) 0x7D) && not inside′) n);
-      some = omega arith;
-      stands = subst (λ (p : ℕ). Stands inside₀ odd₀ (drop at s) n₀ p inside′ odd′ n′) next-place next-stands;
-    }
-
-    -- the byte closes the last bracket
-    pub tracked-closed : n′ ≡ 0 → Leads s at inside₀ odd₀ n₀ (i + 1)
-    tracked-closed none =
-        let some : depthIn inside₀ odd₀ (drop at s) n₀ (i - at) ≡ 0 → ⊥ = λ x. omega (arith, v .stands .depth-is, v .some) in
-        let c : Closed inside₀ odd₀ (drop at s) n₀ (suc (i - at)) =
-        closed-at (omega (arith, length-drop at s, v .onward)) some (next-stands .depth-is ∙ none) in
-        record {
-          onward = omega (arith, v .onward);
-          within = λ l. omega arith;
-          exact = λ e d. (let z : suc (i - at) ≡ e = closed-once c d in omega (arith, v .onward));
-        }
-
-  -- the way goes on from here
-  pub then-on : {r : ℕ} → Leads s i inside odd n r → Leads s at inside₀ odd₀ n₀ r
-  then-on {r} l = record {
-    onward = omega (arith, v .onward, l .onward);
-    within = λ h. l .within (v .within h);
-    exact = λ e c.
-        (let d : Closed inside odd (drop i s) n (e - (i - at)) =
-        subst (λ (x : List ℕ). Closed inside odd x n (e - (i - at))) here (closed-on (v .stands) (v .some) c) in
-        omega (arith, l .exact (e - (i - at)) d, end-ahead (v .stands) (v .some) c, v .onward));
-  }
-
 -- ---- a block
 
-no-bracket-past : (s : List ℕ) (inside odd : Bool) (j : ℕ) → length s ≤ j → (opensAt inside odd s j ≡ false) × (closesAt inside odd s j ≡ false)
+pub no-bracket-past : (s : List ℕ) (inside odd : Bool) (j : ℕ) → length s ≤ j → (opensAt inside odd s j ≡ false) × (closesAt inside odd s j ≡ false)
 unfolding opensAt closesAt byteAt
 no-bracket-past s inside odd j h = rw (List·getD-eq-default s 0 h) (refl, refl)
 
@@ -169,13 +100,13 @@ past-block s j h l = ⊎-elim
     (lt-or-ge (length s) 64)
 
 -- bits three and four of a block say the brackets of all 64 places
-block-opens : (s : List ℕ) (inside odd : Bool) (j : ℕ) → j < 64 → bit j (openingWord inside odd s) ≡ opensAt inside odd s j
+pub block-opens : (s : List ℕ) (inside odd : Bool) (j : ℕ) → j < 64 → bit j (openingWord inside odd s) ≡ opensAt inside odd s j
 block-opens s inside odd j h = ⊎-elim
     (λ (l : j < blockSize s). opening-bit s inside odd j l)
     (λ (l : blockSize s ≤ j). opening-past s inside odd j l ∙ sym (no-bracket-past s inside odd j (past-block s j h l) .0))
     (lt-or-ge j (blockSize s))
 
-block-closes : (s : List ℕ) (inside odd : Bool) (j : ℕ) → j < 64 → bit j (closingWord inside odd s) ≡ closesAt inside odd s j
+pub block-closes : (s : List ℕ) (inside odd : Bool) (j : ℕ) → j < 64 → bit j (closingWord inside odd s) ≡ closesAt inside odd s j
 block-closes s inside odd j h = ⊎-elim
     (λ (l : j < blockSize s). closing-bit s inside odd j l)
     (λ (l : blockSize s ≤ j). closing-past s inside odd j l ∙ sym (no-bracket-past s inside odd j (past-block s j h l) .1))
@@ -209,9 +140,9 @@ words-apart s inside odd j p q = ⊎-elim
     (λ (l : blockSize s ≤ j). false≢true (sym (opening-past s inside odd j l) ∙ p))
     (lt-or-ge j (blockSize s))
 
-module _ {s : List ℕ} {at : ℕ} {inside₀ odd₀ : Bool} {n₀ i : ℕ} {inside odd : Bool} {n : ℕ} (v : Tracked s at inside₀ odd₀ n₀ i inside odd n)
+module _ {s : List ℕ} {at i : ℕ} {inside odd : Bool} {n : ℕ} (v : Tracked s at i inside odd n)
     {w : Words} (given : Sorted (take (length s - i) (drop i s)) inside odd w) where
-  sorted : Sorted (drop i s) inside odd w
+  pub sorted : Sorted (drop i s) inside odd w
   sorted = rw (take-all (length s - i) (drop i s) (rw (length-drop i s) (omega arith))) at given
 
   pub apart : Apart (w .opening) (w .closing)
@@ -225,7 +156,7 @@ module _ {s : List ℕ} {at : ℕ} {inside₀ odd₀ : Bool} {n₀ i : ℕ} {ins
       (λ k l. ap (bit k) (sorted .closing-are) ∙ block-closes (drop i s) inside odd k (omega arith))
 
   module _ {place after : ℕ} (f : Finds (w .opening) (w .closing) n place after) where
-    block-depth : (j : ℕ) → j ≤ 64 → depthAt (λ k. bit k (w .opening)) (λ k. bit k (w .closing)) n j ≡ depthIn inside₀ odd₀ (drop at s) n₀ (i - at + j)
+    block-depth : (j : ℕ) → j ≤ 64 → depthAt (λ k. bit k (w .opening)) (λ k. bit k (w .closing)) n j ≡ depthIn false false (drop at s) 1 (i - at + j)
     block-depth j h = word-depth j h ∙ ap (λ (x : List ℕ). depthIn inside odd x n j) (sym (here v)) ∙ stands-on (v .stands) j
 
     -- the bracket that was found stands in the record
@@ -241,38 +172,38 @@ module _ {s : List ℕ} {at : ℕ} {inside₀ odd₀ : Bool} {n₀ i : ℕ} {ins
         absurd (omega (arith, ap (depthIn inside odd (drop i s) n) (add-one place))))
         (lt-or-ge place (length (drop i s)))
 
-    pub block-found : i < length s → place < 64 → Leads s at inside₀ odd₀ n₀ (i + place + 1)
+    pub block-found : i < length s → place < 64 → Leads s at (i + place + 1)
     block-found in-it h =
         let l = in-record h in
-        let x : depthIn inside₀ odd₀ (drop at s) n₀ (i - at + place) ≡ 1 = sym (block-depth place (omega arith)) ∙ f .found h .0 in
-        let y : depthIn inside₀ odd₀ (drop at s) n₀ (i - at + (place + 1)) ≡ 0 = sym (block-depth (place + 1) (omega arith)) ∙ f .found h .1 in
+        let x : depthIn false false (drop at s) 1 (i - at + place) ≡ 1 = sym (block-depth place (omega arith)) ∙ f .found h .0 in
+        let y : depthIn false false (drop at s) 1 (i - at + (place + 1)) ≡ 0 = sym (block-depth (place + 1) (omega arith)) ∙ f .found h .1 in
         let z : i - at + (place + 1) ≡ suc (i - at + place) = omega arith in
-        let c : Closed inside₀ odd₀ (drop at s) n₀ (suc (i - at + place)) =
-        closed-at (omega (arith, length-drop at s, length-drop i s, v .onward)) (λ e. omega arith) (ap (depthIn inside₀ odd₀ (drop at s) n₀) (sym z) ∙ y) in
+        let c : Closed false false (drop at s) 1 (suc (i - at + place)) =
+        closed-at (omega (arith, length-drop at s, length-drop i s, v .onward)) (λ e. omega arith) (ap (depthIn false false (drop at s) 1) (sym z) ∙ y) in
         record {
           onward = omega (arith, v .onward);
           within = λ _. omega (arith, length-drop i s);
           exact = λ e d. (let q : suc (i - at + place) ≡ e = closed-once c d in omega (arith, v .onward));
         }
 
-    still-open : 64 ≤ place → depthIn inside₀ odd₀ (drop at s) n₀ (i - at + 64) ≡ after
+    still-open : 64 ≤ place → depthIn false false (drop at s) 1 (i - at + 64) ≡ after
     still-open h = sym (block-depth 64 (omega arith)) ∙ f .none h .1
 
     -- the record ends in this block
-    pub block-last : i < length s → 64 ≤ place → length s - i < 64 → Leads s at inside₀ odd₀ n₀ (length s)
+    pub block-last : i < length s → 64 ≤ place → length s - i < 64 → Leads s at (length s)
     unfolding depthIn
     block-last in-it h l = record {
       onward = omega (arith, v .onward);
       within = λ _. omega arith;
       exact = λ e c.
-          (let x : depthIn inside₀ odd₀ (drop at s) n₀ (i - at + 64) ≡ 0 =
-          depth-none-at (opensAt inside₀ odd₀ (drop at s)) (closesAt inside₀ odd₀ (drop at s)) n₀ e (i - at + 64)
+          (let x : depthIn false false (drop at s) 1 (i - at + 64) ≡ 0 =
+          depth-none-at (opensAt false false (drop at s)) (closesAt false false (drop at s)) 1 e (i - at + 64)
           (omega (arith, c .within, length-drop at s, v .onward)) (c .is-zero) in
           absurd (omega (arith, still-open h, f .none h .0)));
     }
 
     -- on to the next block
-    pub block-next : 64 ≤ place → 64 ≤ length s - i → Tracked s at inside₀ odd₀ n₀ (i + 64) (w .inside) (w .odd) after
+    pub block-next : 64 ≤ place → 64 ≤ length s - i → Tracked s at (i + 64) (w .inside) (w .odd) after
     block-next h l =
         let full : 64 ≤ length (drop i s) = omega (arith, length-drop i s) in
         let z : i - at + 64 ≡ i + 64 - at = omega (arith, v .onward) in
@@ -281,32 +212,32 @@ module _ {s : List ℕ} {at : ℕ} {inside₀ odd₀ : Bool} {n₀ i : ℕ} {ins
           within = λ _. omega arith;
           few = omega (arith, v .few, f .few);
           some = f .none h .0;
-          stands = subst (λ (p : ℕ). Stands inside₀ odd₀ (drop at s) n₀ p (w .inside) (w .odd) after) z (record {
+          stands = subst (λ (p : ℕ). Stands false false (drop at s) 1 p (w .inside) (w .odd) after) z (record {
             carried = record {
-              quoted-is = sym (quotes-drop (drop at s) inside₀ odd₀ (i - at) 64) ∙ facts-inside ∙ sym (inside-full (drop i s) inside odd full) ∙ sym (sorted .inside-is);
-              escaped-is = sym (odd-drop (drop at s) inside₀ odd₀ (i - at) 64) ∙ facts-odd ∙ sym (odd-full (drop i s) inside odd full) ∙ sym (sorted .odd-is);
+              quoted-is = sym (quotes-drop (drop at s) false false (i - at) 64) ∙ facts-inside ∙ sym (inside-full (drop i s) inside odd full) ∙ sym (sorted .inside-is);
+              escaped-is = sym (odd-drop (drop at s) false false (i - at) 64) ∙ facts-odd ∙ sym (odd-full (drop i s) inside odd full) ∙ sym (sorted .odd-is);
             };
             depth-is = still-open h;
           });
         }
       where
-        k : Carried inside₀ odd₀ (drop at s) (i - at) inside odd
+        k : Carried false false (drop at s) (i - at) inside odd
         k = v .stands .carried
 
         facts-inside :
-            oddQuotes (oddQuotes inside₀ odd₀ (drop at s) (i - at)) (oddBefore odd₀ (drop at s) (i - at)) (drop (i - at) (drop at s)) 64
+            oddQuotes (oddQuotes false false (drop at s) (i - at)) (oddBefore false (drop at s) (i - at)) (drop (i - at) (drop at s)) 64
             ≡ oddQuotes inside odd (drop i s) 64
         facts-inside =
             ap₂ (λ (x y : Bool). oddQuotes x y (drop (i - at) (drop at s)) 64) (k .quoted-is) (k .escaped-is)
             ∙ ap (λ (x : List ℕ). oddQuotes inside odd x 64) (here v)
 
-        facts-odd : oddBefore (oddBefore odd₀ (drop at s) (i - at)) (drop (i - at) (drop at s)) 64 ≡ oddBefore odd (drop i s) 64
+        facts-odd : oddBefore (oddBefore false (drop at s) (i - at)) (drop (i - at) (drop at s)) 64 ≡ oddBefore odd (drop i s) 64
         facts-odd =
             ap (λ (y : Bool). oddBefore y (drop (i - at) (drop at s)) 64) (k .escaped-is) ∙ ap (λ (x : List ℕ). oddBefore odd x 64) (here v)
 
 -- ---- a container
 
-pub leads-leaves : {s : List ℕ} {at r : ℕ} → Leads s at false false 1 r → Leaves s at r
+pub leads-leaves : {s : List ℕ} {at r : ℕ} → Leads s at r → Leaves s at r
 leads-leaves {s} {at} {r} l = record {
   onward = l .onward;
   within = l .within;

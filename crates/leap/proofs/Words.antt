@@ -14,7 +14,7 @@ use Rattle.bits.specs.Bits.{on, bit, digit, number, Lowest}
 use Rattle.bits.specs.Laws.{lt-or-ge, bit-or, bit-xor, bit-shl, bit-zero, bit-high, shifted-is, digit-lt, number-is, bit-ext}
 use Rattle.bits.specs.Truth.{truth}
 use Rattle.leap.specs.Brackets.{afterPlace, depthAt}
-use Rattle.leap.specs.BracketLaws.{depth-quiet-to, depth-more, depth-less}
+use Rattle.leap.specs.BracketLaws.{after-le, depth-quiet-to}
 use Rattle.leap.specs.Passing.{Cleared, Apart, Finds}
 
 -- ---- one bit less
@@ -142,6 +142,29 @@ second : (x y : Bool) → (x || y) ≡ true → x ≡ false → y ≡ true
 second true y h e = absurd (false≢true (sym e))
 second false y h e = h
 
+-- a place that has a bracket has a closing one where it has no opening one
+one-of-two : (o c : Bool) (n : ℕ) → (o ≡ false → c ≡ true) → afterPlace o c n ≡ afterPlace o true n
+unfolding afterPlace
+one-of-two o c zero h = refl
+one-of-two true c (suc n) h = refl
+one-of-two false c (suc n) h = ap (λ (x : Bool). afterPlace false x (suc n)) (h refl)
+
+last-closes : (o : Bool) (n : ℕ) → 1 ≤ n → afterPlace o true n ≡ 0 → n ≡ 1
+unfolding afterPlace
+last-closes o zero l e = absurd (omega arith)
+last-closes true (suc n) l e = absurd (omega arith)
+last-closes false (suc n) l e = omega arith
+
+pub opens-one : (o : Bool) (n : ℕ) → o ≡ true → 1 ≤ n → n + 1 ≡ afterPlace o true n
+unfolding afterPlace
+opens-one o zero e l = absurd (omega arith)
+opens-one o (suc n) e l = rw e (omega arith)
+
+pub closes-one : (o : Bool) (n : ℕ) → o ≡ false → 1 ≤ n → n - 1 ≡ afterPlace o true n
+unfolding afterPlace
+closes-one o zero e l = absurd (omega arith)
+closes-one o (suc n) e l = rw e (omega arith)
+
 pub counting-starts : {a b n : ℕ} → bitOr a b < 2 ^ 64 → 1 ≤ n → Counting a b n (bitOr a b) n
 unfolding depthAt
 counting-starts {a} {b} {n} f h = record {
@@ -194,45 +217,40 @@ module _ {a b n left level : ℕ} (v : Counting a b n left level) where
     closes : bit i a ≡ false → bit i b ≡ true
     closes h = second (bit i a) (bit i b) (sym (v .rest i counted-before) ∙ next-on) h
 
-    pub counting-found : bit i a ≡ false → level ≡ 1 → Finds a b n i 0
-    counting-found h z = record {
-      small = omega (arith, next-lt);
-      few = omega arith;
-      found = λ l. (
-        level-before ∙ z,
-        ap (depthAt (λ j. bit j a) (λ j. bit j b) n) (add-one i)
-            ∙ depth-less (λ j. bit j a) (λ j. bit j b) n i 0 h (closes h) (level-before ∙ z),
-      );
-      none = λ l. absurd (omega (arith, next-lt));
-    }
-
     clear-on : {rest : ℕ} → Cleared left i rest → (j : ℕ) → j < suc i → bit j rest ≡ false
     clear-on {rest} c j l = ⊎-elim
         (λ (h : j < i). c .other j (λ e. omega arith) ∙ low .none-below j h)
         (λ (h : i ≤ j). let z : j ≡ i = omega arith in ap (λ (k : ℕ). bit k rest) z ∙ c .off)
         (lt-or-ge j i)
 
-    counting-on : {rest level′ : ℕ} → Cleared left i rest → 1 ≤ level′ → level′ ≤ level + 1
-        → depthAt (λ j. bit j a) (λ j. bit j b) n (suc i) ≡ level′ → Counting a b n rest level′
-    counting-on c p q d = record {
-      upto = suc i;
-      small = omega (arith, next-lt);
-      few = omega (arith, v .few, counted-before);
-      some = p;
-      fits = c .fits;
-      clear = clear-on c;
-      rest = λ j l. c .other j (λ e. omega arith) ∙ v .rest j (omega (arith, counted-before));
-      level-is = d;
-    }
+    -- how many are open after it
+    module _ {level′ : ℕ} (next : level′ ≡ afterPlace (bit i a) true level) where
+      level-after : depthAt (λ j. bit j a) (λ j. bit j b) n (suc i) ≡ level′
+      unfolding depthAt
+      level-after =
+          ap (afterPlace (bit i a) (bit i b)) level-before ∙ one-of-two (bit i a) (bit i b) level closes ∙ sym next
 
-    pub counting-opens : {rest : ℕ} → Cleared left i rest → bit i a ≡ true → Counting a b n rest (level + 1)
-    counting-opens c h =
-        let z : level ≡ suc (level - 1) = omega (arith, v .some) in
-        counting-on c (omega arith) (omega arith)
-        (depth-more (λ j. bit j a) (λ j. bit j b) n i (level - 1) h (level-before ∙ z) ∙ omega (arith, v .some))
+      -- none: it is the one that is looked for
+      pub counting-found : level′ ≡ 0 → Finds a b n i 0
+      counting-found z = record {
+        small = omega (arith, next-lt);
+        few = omega arith;
+        found = λ l. (
+          level-before ∙ last-closes (bit i a) level (v .some) (sym next ∙ z),
+          ap (depthAt (λ j. bit j a) (λ j. bit j b) n) (add-one i) ∙ level-after ∙ z,
+        );
+        none = λ l. absurd (omega (arith, next-lt));
+      }
 
-    pub counting-closes : {rest : ℕ} → Cleared left i rest → bit i a ≡ false → (level ≡ 1 → ⊥) → Counting a b n rest (level - 1)
-    counting-closes c h ne =
-        let z : level ≡ suc (level - 1) = omega (arith, v .some) in
-        counting-on c (omega (arith, v .some)) (omega arith)
-        (depth-less (λ j. bit j a) (λ j. bit j b) n i (level - 1) h (closes h) (level-before ∙ z))
+      -- some: the search goes on without it
+      pub counting-on : {rest : ℕ} → Cleared left i rest → (level′ ≡ 0 → ⊥) → Counting a b n rest level′
+      counting-on c p = record {
+        upto = suc i;
+        small = omega (arith, next-lt);
+        few = omega (arith, v .few, counted-before, next, after-le (bit i a) true level);
+        some = omega arith;
+        fits = c .fits;
+        clear = clear-on c;
+        rest = λ j l. c .other j (λ e. omega arith) ∙ v .rest j (omega (arith, counted-before));
+        level-is = level-after;
+      }

@@ -1,18 +1,12 @@
--- What the steps of the way to a closing bracket promise: past a byte, past a block, and from a place on.
+-- What the steps of the way to a closing bracket promise: past a block, from a place on, and by the words that are kept of a block.
 use mathlib.Core.Path.{_≡_}
-use mathlib.Core.Bool.{Bool, true, false, not, xor, _&&_, _||_}
+use mathlib.Core.Bool.{Bool, true, false}
 use mathlib.Core.List.{List}
 use Prim.Native.Nat.{ℕ, _+_, _^_, _<_, _≤_}
-use lib.Dec.{eqb}
-use lib.ListN.{length, drop}
+use lib.ListN.{length, getD, drop}
 use Rattle.bits.specs.Bits.{bit}
-use Rattle.leap.specs.Brackets.{afterPlace, depthAt, Closed}
-
--- the two facts and the open brackets after byte b, where `inside`, `odd` and n are those before it
-pub record After (b : ℕ) (inside odd : Bool) (n : ℕ) (inside′ odd′ : Bool) (n′ : ℕ) : Type 0 where
-  pub inside-is : inside′ ≡ xor (eqb b 0x22 && not odd) inside
-  pub odd-is : odd′ ≡ (eqb b 0x5C && not odd)
-  pub depth-is : n′ ≡ afterPlace ((eqb b 0x5B || eqb b 0x7B) && not inside′) ((eqb b 0x5D || eqb b 0x7D) && not inside′) n
+use Rattle.blocks.specs.Words.{openingWord, closingWord}
+use Rattle.leap.specs.Brackets.{depthAt, Closed}
 
 -- r is w without its bit i, and has 64 bits too
 pub record Cleared (w i r : ℕ) : Type 0 where
@@ -32,8 +26,26 @@ pub record Finds (opening closing n place after : ℕ) : Type 0 where
       × (depthAt (λ j. bit j opening) (λ j. bit j closing) n (place + 1) ≡ 0)
   pub none : 64 ≤ place → (1 ≤ after) × (depthAt (λ j. bit j opening) (λ j. bit j closing) n 64 ≡ after)
 
--- r is the place after the bracket that closes the last of n open ones, from place `at` on with the two facts there; the length where none does
-pub record Leads (s : List ℕ) (at : ℕ) (inside odd : Bool) (n r : ℕ) : Type 0 where
+-- r is the place after the bracket that closes the container whose opening bracket stands just before `at`; the length where none does
+pub record Leads (s : List ℕ) (at r : ℕ) : Type 0 where
   pub onward : at ≤ r
   pub within : at ≤ length s → r ≤ length s
-  pub exact : (e : ℕ) → Closed inside odd (drop at s) n e → r ≡ at + e
+  pub exact : (e : ℕ) → Closed false false (drop at s) 1 e → r ≡ at + e
+
+-- words three and four of the block of s that ends at place `end`, sorted with some two facts
+pub record KeptBlock (s : List ℕ) (end opening closing : ℕ) : Type 0 where
+  pub start : ℕ
+  pub inside : Bool
+  pub odd : Bool
+  pub end-is : end ≡ start + 64
+  pub opening-are : opening ≡ openingWord inside odd (drop start s)
+  pub closing-are : closing ≡ closingWord inside odd (drop start s)
+
+-- what is kept of s: nothing, with 0 first, or the end of a block and its words three and four
+pub record Kept (s kept : List ℕ) : Type 0 where
+  pub sized : length kept ≡ 3
+  pub block : (getD kept 0 0 ≡ 0 → ⊥) → KeptBlock s (getD kept 0 0) (getD kept 1 0) (getD kept 2 0)
+
+-- by what is kept of some s, r is the place after the closing bracket; or 0
+pub record Near (kept : List ℕ) (at r : ℕ) : Type 0 where
+  pub leads : (s : List ℕ) → Kept s kept → (r ≡ 0 → ⊥) → Leads s at r

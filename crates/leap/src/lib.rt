@@ -1,19 +1,18 @@
-// The place after a container: byte by byte at first, then block by block.
+// The place after a container: by the words that are kept of an earlier block, where these reach that far, and else block by block.
 use bits::has;
 use bits::lowest;
 use blocks::Words;
 use blocks::sort_block;
 use blocks::sort_full;
-use encoding::class;
 ghost use mathlib.Core.Path.{_≡_};
+ghost use mathlib.Core.List.{List};
 ghost use mathlib.Core.Bool.{true};
-ghost use Prim.Native.Nat.{_≤_, _<_};
+ghost use Prim.Native.Nat.{ℕ, _≤_, _<_};
 ghost use lib.Count.{ones};
 ghost use Rattle.bits.specs.Bits.{bit};
 ghost use Rattle.blocks.specs.Sorted.{Sorted};
-ghost use Rattle.encoding.specs.ClassTable.{ClassTable};
-ghost use Rattle.leap.specs.Brackets.{Leaves};
-ghost use Rattle.leap.specs.Passing.{After, Cleared, Apart, Finds, Leads};
+ghost use Rattle.leap.specs.Brackets.{afterPlace, Leaves};
+ghost use Rattle.leap.specs.Passing.{Cleared, Apart, Finds, Leads, Kept, Near};
 
 const BLOCK: usize = 64;
 
@@ -22,68 +21,19 @@ const AHEAD: usize = 512;
 
 const LOOK: usize = 448;
 
-// How many bytes are passed one by one before the first block is sorted.
-const HEAD: usize = 16;
+// What is kept of the block in which a container was left: the place after the block, and its words three and four.
+pub const KEPT: usize = 3;
 
-// The classes of most bytes, of brackets, quote and backslash.
-const OTHER: u8 = 0;
+const END: usize = 0;
 
-const OPENING: u8 = 1;
+const OPENING: usize = 1;
 
-const CLOSING: u8 = 2;
-
-const QUOTE: u8 = 5;
-
-const BACKSLASH: u8 = 6;
-
-// What holds before a place: inside a string, an odd run of backslashes just before, and how many brackets are open.
-struct Standing {
-    inside: bool,
-    odd: bool,
-    depth: usize,
-}
+const CLOSING: usize = 2;
 
 // The place in its block of the bracket that closes the last open one, or 64; and how many are open after the block.
 struct Found {
     place: usize,
     depth: usize,
-}
-
-// What holds after the byte `b`.
-fn pass_byte(classes: &[u8; 256], b: u8, before: Standing) -> Standing
-    requires { ⌜ ClassTable (now classes) ⌝ }
-    requires { ⌜ (1 ≤ before .depth) × (before .depth ≤ 100000000) ⌝ }
-    ensures { λ r. ⌜ After b (before .inside) (before .odd) (before .depth) (r .inside) (r .odd) (r .depth) ⌝ }
-{
-    let c = class(classes, b);
-    let mut after = before;
-    after.odd = false;
-    if c == OTHER {
-        return after;
-    }
-    if c == BACKSLASH {
-        after.odd = !before.odd;
-        return after;
-    }
-    if c == QUOTE {
-        if before.odd {
-            return after;
-        }
-        after.inside = !before.inside;
-        return after;
-    }
-    if before.inside {
-        return after;
-    }
-    if c == OPENING {
-        after.depth = before.depth + 1;
-        return after;
-    }
-    if c == CLOSING {
-        after.depth = before.depth - 1;
-        return after;
-    }
-    after
 }
 
 // The word without its bit i.
@@ -102,6 +52,17 @@ fn count(w: u64) -> usize
     u64::count_ones(w) as usize
 }
 
+// How many brackets are open after the bracket at place i of a block, where `level` are before it.
+fn next_level(opening: u64, i: usize, level: usize) -> usize
+    requires { ⌜ (i < 64) × (1 ≤ level) × (level ≤ 100000064) ⌝ }
+    ensures { λ r. ⌜ r ≡ afterPlace (bit i opening) true level ⌝ }
+{
+    if has(opening, i) {
+        return level + 1;
+    }
+    level - 1
+}
+
 // Finds the bracket that closes the last of `depth` open ones, bracket by bracket.
 fn find_closing(opening: u64, closing: u64, depth: usize) -> Found
     requires { ⌜ (1 ≤ depth) × (depth ≤ 100000000) ⌝ }
@@ -112,13 +73,9 @@ fn find_closing(opening: u64, closing: u64, depth: usize) -> Found
     while left != 0 {
         let i = lowest(left) as usize;
         left = without(left, i);
-        if has(opening, i) {
-            level += 1;
-        } else {
-            if level == 1 {
-                return Found { place: i, depth: 0 };
-            }
-            level -= 1;
+        level = next_level(opening, i, level);
+        if level == 0 {
+            return Found { place: i, depth: 0 };
         }
     }
     Found {
@@ -170,22 +127,34 @@ fn next_words(rest: &[u8], look: bool, inside: bool, odd: bool) -> Words
     sort_full(rest, inside, odd)
 }
 
-// The place after the bracket that closes the last open one, from `at` on block by block; the length where none does.
-fn leave_blocks(record: &[u8], at: usize, start: Standing) -> usize
+// Nothing kept.
+pub fn none_kept() -> [u64; KEPT]
+    ensures { λ r. ⌜ ((s : List ℕ) → Kept s r) ⌝ }
+{
+    [0; KEPT]
+}
+
+// The place after the closing bracket of the container whose opening bracket stands just before `at`, block by block; the length where
+// none closes it. The words of the block that has the closing bracket are kept.
+fn leave_blocks(record: &[u8], at: usize, kept: &mut [u64; KEPT]) -> usize
     requires { do ⌜ (← ⟦record.len()⟧) ≤ 16777216 ⌝ }
-    requires { ⌜ (1 ≤ start .depth) × (start .depth ≤ 16777217) ⌝ }
-    ensures { λ r. ⌜ Leads (now («record» .entry)) at (start .inside) (start .odd) (start .depth) r ⌝ }
+    requires { ⌜ Kept (now «record») (now kept) ⌝ }
+    ensures { λ r. ⌜ Leads (now («record» .entry)) at r ⌝ }
+    ensures { λ _. ⌜ Kept (now («record» .entry)) (now (kept .exit)) ⌝ }
 {
     let mut i = at;
-    let mut inside = start.inside;
-    let mut odd = start.odd;
-    let mut depth = start.depth;
+    let mut inside = false;
+    let mut odd = false;
+    let mut depth: usize = 1;
     while i < record.len() {
         let look = (i - at) % AHEAD == LOOK;
         let w = next_words(&record[i..], look, inside, odd);
         let found = pass_block(w.opening, w.closing, depth);
         let place = found.place;
         if place < BLOCK {
+            kept[END] = (i + BLOCK) as u64;
+            kept[OPENING] = w.opening;
+            kept[CLOSING] = w.closing;
             return i + place + 1;
         }
         if record.len() - i < BLOCK {
@@ -199,36 +168,47 @@ fn leave_blocks(record: &[u8], at: usize, start: Standing) -> usize
     i
 }
 
-// The end of the bytes that are passed one by one.
-fn head_end(size: usize, at: usize) -> usize
-    requires { ⌜ at < size ⌝ }
-    ensures { λ r. ⌜ r ≤ size ⌝ }
+// The same by the words that are kept, where these have both brackets; and else 0. Their opening bracket just before `at` shows that they
+// are the words from there on.
+fn leave_near(at: usize, kept: &[u64; KEPT]) -> usize
+    requires { ⌜ at ≤ 16777216 ⌝ }
+    ensures { λ r. ⌜ Near (now (kept .entry)) at r ⌝ }
 {
-    if size - at > HEAD { at + HEAD } else { size }
+    let end = kept[END] as usize;
+    if at >= end {
+        return 0;
+    }
+    let ahead = end - at;
+    if ahead >= BLOCK {
+        return 0;
+    }
+    let near = BLOCK - ahead;
+    let opening = kept[OPENING];
+    if !has(opening, near - 1) {
+        return 0;
+    }
+    let closing = kept[CLOSING];
+    let found = find_closing(opening >> near, closing >> near, 1);
+    let place = found.place;
+    if place >= BLOCK {
+        return 0;
+    }
+    at + place + 1
 }
 
 // The place after the closing bracket of the container whose opening bracket stands just before `at`.
-pub fn leave(classes: &[u8; 256], record: &[u8], at: usize) -> usize
-    requires { ⌜ ClassTable (now classes) ⌝ }
+pub fn leave(record: &[u8], at: usize, kept: &mut [u64; KEPT]) -> usize
     requires { do ⌜ (← ⟦record.len()⟧) ≤ 16777216 ⌝ }
+    requires { ⌜ Kept (now «record») (now kept) ⌝ }
     ensures { λ r. ⌜ Leaves (now («record» .entry)) at r ⌝ }
+    ensures { λ _. ⌜ Kept (now («record» .entry)) (now (kept .exit)) ⌝ }
 {
     if at >= record.len() {
         return at;
     }
-    let end = head_end(record.len(), at);
-    let mut f = Standing {
-        inside: false,
-        odd: false,
-        depth: 1,
-    };
-    let mut i = at;
-    while i < end {
-        f = pass_byte(classes, record[i], f);
-        i += 1;
-        if f.depth == 0 {
-            return i;
-        }
+    let near = leave_near(at, kept);
+    if near != 0 {
+        return near;
     }
-    leave_blocks(record, i, f)
+    leave_blocks(record, at, kept)
 }

@@ -14,16 +14,20 @@ shared-slice-read-class c = search needs
 class-requires : tie.Need-class-requires
 class-requires c κs = search needs
 
+none-kept-requires : tie.Need-none-kept-requires
+none-kept-requires c κs = search needs
+
 add-leave : tie.Need-add-leave
 add-leave c = search needs
 
 leave-requires : tie.Need-leave-requires
-leave-requires c κs = search needs
+leave-requires c κs = search (needs, c .before .none-kept .ensures)
 
 returns-2 : tie.Need-returns-2
 returns-2 c =
-    let classed = c .before .before in
-    ends-container _ _ _ (classed .before .before .if1 .left) (sym (classed .class .ensures) ∙ c .before .if2 .taken) (c .leave .ensures)
+    let container = c .before .before .before in
+    let classed = container .before in
+    ends-container _ _ _ (classed .before .before .if1 .left) (sym (classed .class .ensures) ∙ container .if2 .taken) (c .leave .ensures .0)
 
 scalar-end-requires : tie.Need-scalar-end-requires
 scalar-end-requires c κs = search needs
@@ -38,6 +42,7 @@ value-end-spec =
     returns
     shared-slice-read-class
     class-requires
+    none-kept-requires
     add-leave
     leave-requires
     returns-2

@@ -3,8 +3,8 @@
 use borrow.Author.Needs.{needs}
 use lib.Bits.{or-lt}
 use lib.Count.{ones}
-use mathlib.Core.Path.{sym, _∙_}
-use Rattle.leap.proofs.Words.{Counting, counting-starts, counting-none, counting-found, counting-opens, counting-closes, next-lt, next-on, counting-falls}
+use native.Mathlib.Omega.{arith}
+use Rattle.leap.proofs.Words.{Counting, counting-starts, counting-none, counting-found, counting-on, next-lt, next-on, counting-falls}
 use Rattle.leap.proofs.find_closing.Statement.{statement}
 use Rattle.leap.proofs.find_closing.Tie as tie
 
@@ -29,12 +29,15 @@ without-requires c κs =
     let some = c .before .loop-test .taken in
     (next-lt v some (c .lowest .ensures), next-on v some (c .lowest .ensures))
 
-has-requires : tie.Need-has-requires Inv-loop μ-loop
-has-requires c κs =
-    next-lt (c .before .before .before .loop .inv) (c .before .before .loop-test .taken) (c .before .lowest .ensures)
+next-level-requires : tie.Need-next-level-requires Inv-loop μ-loop
+next-level-requires c κs =
+    let v = c .before .before .before .loop .inv in
+    (next-lt v (c .before .before .loop-test .taken) (c .before .lowest .ensures), v .some, omega (arith, v .few, v .small))
 
-add-level : tie.Need-add-level Inv-loop μ-loop
-add-level c = search needs
+returns : tie.Need-returns Inv-loop μ-loop
+returns c =
+    let t = c .before .before .before .before in
+    counting-found (t .before .loop .inv) (t .loop-test .taken) (c .before .before .before .lowest .ensures) (c .before .next-level .ensures) (c .if1 .taken)
 
 loop-less : tie.Need-loop-less Inv-loop μ-loop
 loop-less c =
@@ -44,31 +47,8 @@ loop-less c =
 loop-again : tie.Need-loop-again Inv-loop μ-loop
 loop-again c =
     let t = c .before .before .before .before in
-    counting-opens (t .before .loop .inv) (t .loop-test .taken) (c .before .before .before .lowest .ensures) (c .before .before .without .ensures)
-    (sym (c .before .has .ensures) ∙ c .if1 .taken)
-
-returns : tie.Need-returns Inv-loop μ-loop
-returns c =
-    let h = c .before .before in
-    let t = h .before .before .before in
-    counting-found (t .before .loop .inv) (t .loop-test .taken) (h .before .before .lowest .ensures)
-    (sym (h .has .ensures) ∙ c .before .if1 .left) (c .if2 .taken)
-
-sub-level : tie.Need-sub-level Inv-loop μ-loop
-sub-level c = search needs
-
-loop-less-2 : tie.Need-loop-less-2 Inv-loop μ-loop
-loop-less-2 c =
-    let h = c .before .before in
-    let t = h .before .before .before in
-    counting-falls (t .before .loop .inv) (t .loop-test .taken) (h .before .before .lowest .ensures) (h .before .without .ensures)
-
-loop-again-2 : tie.Need-loop-again-2 Inv-loop μ-loop
-loop-again-2 c =
-    let h = c .before .before in
-    let t = h .before .before .before in
-    counting-closes (t .before .loop .inv) (t .loop-test .taken) (h .before .before .lowest .ensures) (h .before .without .ensures)
-    (sym (h .has .ensures) ∙ c .before .if1 .left) (c .if2 .left)
+    counting-on (t .before .loop .inv) (t .loop-test .taken) (c .before .before .before .lowest .ensures) (c .before .next-level .ensures)
+    (c .before .before .without .ensures) (c .if1 .left)
 
 returns-2 : tie.Need-returns-2 Inv-loop μ-loop
 returns-2 c = counting-none (c .before .loop .inv) (c .loop-test .left)
@@ -83,12 +63,8 @@ find-closing-spec =
     lowest-requires
     cast-i
     without-requires
-    has-requires
-    add-level
+    next-level-requires
+    returns
     loop-less
     loop-again
-    returns
-    sub-level
-    loop-less-2
-    loop-again-2
     returns-2)

@@ -15,7 +15,7 @@ returns : tie.Need-returns
 returns c =
     let at-if1 = c .before in
     let pre = at-if1 .before .before .before .before .pre in
-    container-lost (c .lost .ensures) (pre .1 .0 .1) (pre .1 .1 .1) (λ x whole y. omega (arith, has-level y, at-if1 .if1 .taken))
+    (container-lost (c .lost .ensures) (pre .1 .0 .1) (pre .1 .1 .0 .1) (λ x whole y. omega (arith, has-level y, at-if1 .if1 .taken)), pre .1 .1 .1)
 
 lost-requires-2 : tie.Need-lost-requires-2
 lost-requires-2 c κs = search needs
@@ -24,7 +24,7 @@ returns-2 : tie.Need-returns-2
 returns-2 c =
     let at-if2 = c .before in
     let pre = at-if2 .before .before .before .before .before .pre in
-    container-lost (c .lost2 .ensures) (pre .1 .0 .1) (pre .1 .1 .1) (λ x whole y. omega (arith, has-frame y, at-if2 .if2 .taken))
+    (container-lost (c .lost2 .ensures) (pre .1 .0 .1) (pre .1 .1 .0 .1) (λ x whole y. omega (arith, has-frame y, at-if2 .if2 .taken)), pre .1 .1 .1)
 
 framed-requires : tie.Need-framed-requires
 framed-requires c κs = search needs
@@ -44,8 +44,8 @@ leave-requires c κs = search needs
 pass-requires : tie.Need-pass-requires
 pass-requires c κs =
     let at-leave = c .before in
-    let pre = at-leave .before .before .before .before .before .before .before .before .before .before .pre in
-    omega (arith, at-leave .leave .ensures .within (omega (arith, pre .1 .0 .1)), pre .1 .0 .0)
+    let pre = at-leave .before .before .before .before .before .before .before .before .before .before .before .pre in
+    omega (arith, at-leave .leave .ensures .0 .within (omega (arith, pre .1 .0 .1)), pre .1 .0 .0)
 
 same-length : tie.Need-same-length
 same-length c = search needs
@@ -54,20 +54,22 @@ returns-3 : tie.Need-returns-3
 returns-3 c =
     let at-pass = c .before .before in
     let at-leave = at-pass .before .before in
-    let at-if3 = at-leave .before in
+    let at-if3 = at-leave .before .before in
     let at-is-dead = at-if3 .before in
     let at-raise = at-is-dead .before in
     let at-framed = at-raise .before in
-    let pre = at-framed .before .before .before .before .before .before .pre in
-    record {
-      onward =
-          onward-passed (at-pass .pass .ensures) (omega (arith, at-leave .leave .ensures .onward))
-          (at-leave .leave .ensures .within (omega (arith, pre .1 .0 .1))) (pre .1 .1 .0) (pre .1 .1 .1);
-      keeps = λ x whole y.
-          due-passed (at-pass .pass .ensures)
-          (skipped-due y (at-framed .framed .ensures) (at-raise .raise .ensures) (at-is-dead .is-dead .ensures) (at-if3 .if3 .taken)
-          (at-leave .leave .ensures));
-    }
+    let pre = at-framed .before .before .before .before .before .before .pre in (
+      record {
+        onward =
+            onward-passed (at-pass .pass .ensures) (omega (arith, at-leave .leave .ensures .0 .onward))
+            (at-leave .leave .ensures .0 .within (omega (arith, pre .1 .0 .1))) (pre .1 .1 .0 .0) (pre .1 .1 .0 .1);
+        keeps = λ x whole y.
+            due-passed (at-pass .pass .ensures)
+            (skipped-due y (at-framed .framed .ensures) (at-raise .raise .ensures) (at-is-dead .is-dead .ensures) (at-if3 .if3 .taken)
+            (at-leave .leave .ensures .0));
+      },
+      at-leave .leave .ensures .1,
+    )
 
 add-skip-blanks : tie.Need-add-skip-blanks
 add-skip-blanks c = search needs
@@ -84,10 +86,12 @@ returns-4 c =
     let at-skip-blanks = at-if4 .before in
     let at-raise = at-skip-blanks .before .before .before in
     let at-framed = at-raise .before in
-    let pre = at-framed .before .before .before .before .before .before .pre in
-    container-lost (c .lost3 .ensures) (pre .1 .0 .1) (pre .1 .1 .1)
-    (λ x whole y.
-    omega (arith, more-bytes y (at-framed .framed .ensures) (at-raise .raise .ensures) (at-skip-blanks .skip-blanks .ensures), at-if4 .if4 .taken))
+    let pre = at-framed .before .before .before .before .before .before .pre in (
+      container-lost (c .lost3 .ensures) (pre .1 .0 .1) (pre .1 .1 .0 .1)
+          (λ x whole y.
+          omega (arith, more-bytes y (at-framed .framed .ensures) (at-raise .raise .ensures) (at-skip-blanks .skip-blanks .ensures), at-if4 .if4 .taken)),
+      pre .1 .1 .1,
+    )
 
 shared-slice-read-class : tie.Need-shared-slice-read-class
 shared-slice-read-class c = search needs
@@ -116,16 +120,18 @@ returns-5 c =
     let at-skip-blanks = at-if4 .before in
     let at-raise = at-skip-blanks .before .before .before in
     let at-framed = at-raise .before in
-    let pre = at-framed .before .before .before .before .before .before .pre in
-    record {
-      onward =
-          onward-passed (at-pass2 .pass2 .ensures) (omega (arith, at-skip-blanks .skip-blanks .ensures .onward)) (omega (arith, at-if4 .if4 .left))
-          (pre .1 .1 .0) (pre .1 .1 .1);
-      keeps = λ x whole y.
-          due-passed (at-pass2 .pass2 .ensures)
-          (empty-due y (at-framed .framed .ensures) (at-raise .raise .ensures) (at-skip-blanks .skip-blanks .ensures)
-          (sym (at-class .class .ensures) ∙ at-if5 .if5 .taken));
-    }
+    let pre = at-framed .before .before .before .before .before .before .pre in (
+      record {
+        onward =
+            onward-passed (at-pass2 .pass2 .ensures) (omega (arith, at-skip-blanks .skip-blanks .ensures .onward)) (omega (arith, at-if4 .if4 .left))
+            (pre .1 .1 .0 .0) (pre .1 .1 .0 .1);
+        keeps = λ x whole y.
+            due-passed (at-pass2 .pass2 .ensures)
+            (empty-due y (at-framed .framed .ensures) (at-raise .raise .ensures) (at-skip-blanks .skip-blanks .ensures)
+            (sym (at-class .class .ensures) ∙ at-if5 .if5 .taken));
+      },
+      pre .1 .1 .1,
+    )
 
 shared-slice-read-bracket : tie.Need-shared-slice-read-bracket
 shared-slice-read-bracket c = search needs
@@ -144,15 +150,18 @@ returns-6 c =
     let at-raise = at-skip-blanks .before .before .before in
     let at-framed = at-raise .before in
     let at-if2 = at-framed .before in
-    record {
-      onward =
-          onward-entered (c .enter .ensures) (omega (arith, at-skip-blanks .skip-blanks .ensures .onward)) (omega (arith, at-if4 .if4 .left))
-          (at-if2 .before .if1 .left) (framed-fits _ (at-framed .framed .ensures) (at-if2 .if2 .left));
-      keeps = λ x whole y.
-          due-entered (c .enter .ensures)
-          (items-due y (at-framed .framed .ensures) (at-raise .raise .ensures) (at-skip-blanks .skip-blanks .ensures)
-          (λ e. at-if5 .if5 .left (at-class .class .ensures ∙ e)));
-    }
+    let pre = at-if2 .before .before .before .before .before .pre in (
+      record {
+        onward =
+            onward-entered (c .enter .ensures) (omega (arith, at-skip-blanks .skip-blanks .ensures .onward)) (omega (arith, at-if4 .if4 .left))
+            (at-if2 .before .if1 .left) (framed-fits _ (at-framed .framed .ensures) (at-if2 .if2 .left));
+        keeps = λ x whole y.
+            due-entered (c .enter .ensures)
+            (items-due y (at-framed .framed .ensures) (at-raise .raise .ensures) (at-skip-blanks .skip-blanks .ensures)
+            (λ e. at-if5 .if5 .left (at-class .class .ensures ∙ e)));
+      },
+      pre .1 .1 .1,
+    )
 
 pub container-spec : {M : Type 1} → statement M
 container-spec =

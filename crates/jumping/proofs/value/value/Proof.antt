@@ -12,11 +12,13 @@ lost-requires c κs = search needs
 returns : tie.Need-returns
 returns c =
     let at-if1 = c .before in
-    let pre = at-if1 .before .before .before .pre in
-    record {
-      onward = onward-lost (c .lost .ensures) (omega arith) (pre .1 .0 .1) (pre .1 .1 .1);
-      keeps = λ x whole y. absurd (omega (arith, value-inside y, at-if1 .if1 .taken));
-    }
+    let pre = at-if1 .before .before .before .pre in (
+      record {
+        onward = onward-lost (c .lost .ensures) (omega arith) (pre .1 .0 .1) (pre .1 .1 .0 .1);
+        keeps = λ x whole y. absurd (omega (arith, value-inside y, at-if1 .if1 .taken));
+      },
+      pre .1 .1 .1,
+    )
 
 begin-requires : tie.Need-begin-requires
 begin-requires c κs = search needs
@@ -43,19 +45,21 @@ returns-2 c =
     let at-if2 = at-scalar-end .before in
     let at-class = at-if2 .before in
     let at-begin = at-class .before .before .before .before in
-    let pre = at-begin .before .before .before .before .before .pre in
-    record {
-      onward =
-          onward-passed (at-pass .pass .ensures) (at-scalar-end .scalar-end .ensures .onward) (at-scalar-end .scalar-end .ensures .within)
-          (pre .1 .1 .0) (pre .1 .1 .1);
-      keeps = λ x whole y.
-          due-passed (at-pass .pass .ensures)
-          (scalar-due y (at-begin .begin .ensures) (λ e. at-if2 .if2 .taken (at-class .class .ensures ∙ e)) (at-scalar-end .scalar-end .ensures));
-    }
+    let pre = at-begin .before .before .before .before .before .pre in (
+      record {
+        onward =
+            onward-passed (at-pass .pass .ensures) (at-scalar-end .scalar-end .ensures .onward) (at-scalar-end .scalar-end .ensures .within)
+            (pre .1 .1 .0 .0) (pre .1 .1 .0 .1);
+        keeps = λ x whole y.
+            due-passed (at-pass .pass .ensures)
+            (scalar-due y (at-begin .begin .ensures) (λ e. at-if2 .if2 .taken (at-class .class .ensures ∙ e)) (at-scalar-end .scalar-end .ensures));
+      },
+      pre .1 .1 .1,
+    )
 
 container-requires : tie.Need-container-requires
 container-requires c κs =
-    let at-if1 = c .before .before .before .before .before .before .before .before .before .before .before .before in
+    let at-if1 = c .before .before .before .before .before .before .before .before .before .before .before .before .before in
     let pre = at-if1 .before .before .before .pre in
     (pre .0, ((pre .1 .0 .0, at-if1 .if1 .left), pre .1 .1))
 
@@ -65,15 +69,17 @@ same-length-2 c = search needs
 returns-3 : tie.Need-returns-3
 returns-3 c =
     let at-container = c .before .before in
-    let at-if2 = at-container .before .before .before .before .before .before in
+    let at-if2 = at-container .before .before .before .before .before .before .before in
     let at-class = at-if2 .before in
-    let at-begin = at-class .before .before .before .before in
-    record {
-      onward = at-container .container .ensures .onward;
-      keeps = λ x whole y.
-          at-container .container .ensures .keeps x whole
-          (container-due y (at-begin .begin .ensures) (sym (at-class .class .ensures) ∙ at-if2 .if2 .left));
-    }
+    let at-begin = at-class .before .before .before .before in (
+      record {
+        onward = at-container .container .ensures .0 .onward;
+        keeps = λ x whole y.
+            at-container .container .ensures .0 .keeps x whole
+            (container-due y (at-begin .begin .ensures) (sym (at-class .class .ensures) ∙ at-if2 .if2 .left));
+      },
+      at-container .container .ensures .1,
+    )
 
 pub value-spec : {M : Type 1} → statement M
 value-spec =
