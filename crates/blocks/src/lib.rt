@@ -8,7 +8,7 @@ ghost use lib.ListN.{length};
 ghost use Rattle.bits.specs.Bits.{bit};
 ghost use Rattle.blocks.specs.Parts.{oddRun, parity, Swapped, spaced, PackedClasses, Unpacked, Classified, Marked, Padded};
 ghost use Rattle.blocks.specs.Words.{oddBefore};
-ghost use Rattle.blocks.specs.Sorted.{Sorted};
+ghost use Rattle.blocks.specs.Sorted.{Sorted, countedOf, SortedCounted};
 
 // Words one to four of a block, and the facts that hold after it.
 #[repr(C)]
@@ -19,6 +19,13 @@ pub struct Words {
     pub closing: u64,
     pub inside: bool,
     pub odd: bool,
+}
+
+// The words of a block with the numbers of its opening and closing brackets.
+pub struct Counted {
+    pub words: Words,
+    pub opened: u32,
+    pub closed: u32,
 }
 
 // The places of the bytes that the words are made of.
@@ -196,22 +203,36 @@ fn mark(quotes: u64, backslashes: u64, inside: bool, odd: bool) -> Marks
     }
 }
 
-// Sorts the first 64 bytes of a part that has them: brackets count outside strings.
-pub fn sort_full(rest: &[u8], inside: bool, odd: bool) -> Words
+// The words with the numbers of their brackets.
+pub fn count(words: Words) -> Counted
+    ensures { λ r. ⌜ r ≡ countedOf words ⌝ }
+{
+    let opened = u64::count_ones(words.opening);
+    let closed = u64::count_ones(words.closing);
+    Counted {
+        words,
+        opened,
+        closed,
+    }
+}
+
+// Sorts the first 64 bytes of a part that has them, and counts their brackets: those outside strings.
+pub fn sort_full(rest: &[u8], inside: bool, odd: bool) -> Counted
     requires { ⌜ 64 ≤ length (now rest) ⌝ }
-    ensures { λ r. ⌜ Sorted (now (rest .entry)) inside odd r ⌝ }
+    ensures { λ r. ⌜ SortedCounted (now (rest .entry)) inside odd r ⌝ }
 {
     let c = classify(rest);
     let k = mark(c.quotes, c.backslashes, inside, odd);
     let outside = k.strings ^ ALL;
-    Words {
+    let words = Words {
         quotes: k.quotes,
         strings: k.strings,
         opening: c.opening & outside,
         closing: c.closing & outside,
         inside: has(k.strings, LAST),
         odd: k.odd,
-    }
+    };
+    count(words)
 }
 
 // The bytes of a part shorter than a block, with zeros behind them.
@@ -255,7 +276,8 @@ fn sort_short(rest: &[u8], inside: bool, odd: bool) -> Words
     ensures { λ r. ⌜ Sorted (now (rest .entry)) inside odd r ⌝ }
 {
     let pad = padded(rest);
-    let w = sort_full(&pad, inside, odd);
+    let full = sort_full(&pad, inside, odd);
+    let w = full.words;
     let mask = size_mask(rest.len());
     Words {
         quotes: w.quotes & mask,
@@ -273,7 +295,8 @@ pub fn sort_block(rest: &[u8], inside: bool, odd: bool) -> Words
     ensures { λ r. ⌜ Sorted (now (rest .entry)) inside odd r ⌝ }
 {
     if rest.len() >= BLOCK {
-        return sort_full(rest, inside, odd);
+        let full = sort_full(rest, inside, odd);
+        return full.words;
     }
     sort_short(rest, inside, odd)
 }

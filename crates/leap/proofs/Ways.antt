@@ -15,7 +15,8 @@ use Rattle.bits.specs.Bits.{bit}
 use Rattle.bits.specs.Laws.{lt-or-ge}
 use Rattle.blocks.specs.Words.{byteAt, oddBefore, oddQuotes, inString, opensAt, closesAt, blockSize, openingWord, closingWord}
 use Rattle.blocks.specs.Laws.{Carried, size-full, size-short, inside-full, odd-full, opening-bit, closing-bit, opening-past, closing-past, odd-drop, quotes-drop}
-use Rattle.blocks.specs.Sorted.{Sorted}
+use Rattle.blocks.specs.Sorted.{Sorted, countedOf, SortedCounted}
+use Rattle.blocks.specs.declared.Counted.{Counted}
 use Rattle.blocks.specs.declared.Words.{Words}
 use Rattle.json.specs.Grammar.{putItems}
 use Rattle.leap.specs.Brackets.{depthAt, depthIn, Closed, Leaves}
@@ -139,6 +140,10 @@ words-apart s inside odd j p q = ⊎-elim
     (λ (l : j < blockSize s). no-both s inside odd j (sym (opening-bit s inside odd j l) ∙ p) (sym (closing-bit s inside odd j l) ∙ q))
     (λ (l : blockSize s ≤ j). false≢true (sym (opening-past s inside odd j l) ∙ p))
     (lt-or-ge j (blockSize s))
+
+-- a block that was sorted, with its brackets counted
+pub counted-sorted : {s : List ℕ} {inside odd : Bool} {w : Words} {r : Counted} → Sorted s inside odd w → r ≡ countedOf w → SortedCounted s inside odd r
+counted-sorted h e = rw e (record { sorted = h; counted = refl })
 
 module _ {s : List ℕ} {at i : ℕ} {inside odd : Bool} {n : ℕ} (v : Tracked s at i inside odd n)
     {w : Words} (given : Sorted (take (length s - i) (drop i s)) inside odd w) where

@@ -7,7 +7,7 @@ use Prim.Native.Nat.{ℕ, zero, suc, _+_, _-_, _*_, _/_, _%_, _^_, _<_, _≤_}
 use native.Mathlib.Numerals.{add-one}
 use native.Mathlib.Omega.{arith}
 use lib.Bits.{bitXor, bitOr, xor-lt}
-use lib.Count.{ones, onesIn, ones-step}
+use lib.Count.{ones, onesIn, ones-step, ones-le}
 use lib.Dec.{leb}
 use borrow.Author.Tests.{le-leb, lt-leb}
 use Rattle.bits.specs.Bits.{on, bit, digit, number, Lowest}
@@ -109,14 +109,14 @@ counted f g x (suc m) n h =
     step false true (suc n) x h r = r n (omega arith) ∙ omega arith
     step false false (suc n) x h r = r (suc n) (omega arith) ∙ omega arith
 
-pub passed-counted : {a b n opened closed : ℕ} → a < 2 ^ 64 → b < 2 ^ 64 → Apart a b → opened ≡ ones a → opened ≤ 64 → closed ≡ ones b → closed ≤ 64 → closed < n
+pub passed-counted : {a b n opened closed : ℕ} → a < 2 ^ 64 → b < 2 ^ 64 → Apart a b → opened ≡ ones a → closed ≡ ones b → closed < n
     → Finds a b n 64 (n + opened - closed)
-passed-counted {a} {b} {n} {opened} {closed} fa fb apart o ol c cl h =
+passed-counted {a} {b} {n} {opened} {closed} fa fb apart o c h =
     let x : opened ≡ tally (λ j. bit j a) 64 = o ∙ ones-tally a fa in
     let y : closed ≡ tally (λ j. bit j b) 64 = c ∙ ones-tally b fb in
     record {
       small = omega arith;
-      few = omega arith;
+      few = omega (arith, o, ones-le 64 a fa);
       found = λ l. absurd (omega arith);
       none = λ l. (omega arith, counted (λ j. bit j a) (λ j. bit j b) apart 64 n (omega arith) ∙ ap₂ (λ (u v : ℕ). n + u - v) (sym x) (sym y));
     }

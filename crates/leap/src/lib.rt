@@ -1,16 +1,16 @@
 // The place after a container: by the words that are kept of an earlier block, where these reach that far, and else block by block.
 use bits::has;
 use bits::lowest;
-use blocks::Words;
+use blocks::Counted;
+use blocks::count;
 use blocks::sort_block;
 use blocks::sort_full;
 ghost use mathlib.Core.Path.{_≡_};
 ghost use mathlib.Core.List.{List};
 ghost use mathlib.Core.Bool.{true};
 ghost use Prim.Native.Nat.{ℕ, _≤_, _<_};
-ghost use lib.Count.{ones};
 ghost use Rattle.bits.specs.Bits.{bit};
-ghost use Rattle.blocks.specs.Sorted.{Sorted};
+ghost use Rattle.blocks.specs.Sorted.{countedOf, SortedCounted};
 ghost use Rattle.leap.specs.Brackets.{afterPlace, Leaves};
 ghost use Rattle.leap.specs.Passing.{Cleared, Apart, Finds, Leads, Kept, Near};
 
@@ -45,13 +45,6 @@ fn without(w: u64, i: usize) -> u64
     w ^ (1u64 << i)
 }
 
-// How many bits are on.
-fn count(w: u64) -> usize
-    ensures { λ r. ⌜ (r ≡ ones w) × (r ≤ 64) ⌝ }
-{
-    u64::count_ones(w) as usize
-}
-
 // How many brackets are open after the bracket at place i of a block, where `level` are before it.
 fn next_level(opening: u64, i: usize, level: usize) -> usize
     requires { ⌜ (i < 64) × (1 ≤ level) × (level ≤ 100000064) ⌝ }
@@ -84,20 +77,22 @@ fn find_closing(opening: u64, closing: u64, depth: usize) -> Found
     }
 }
 
-// The same; a block that has fewer closing brackets than are open is passed whole.
-fn pass_block(opening: u64, closing: u64, depth: usize) -> Found
+// The same in a block whose brackets are counted: with fewer closing brackets than are open it is passed whole.
+fn pass_block(block: Counted, depth: usize) -> Found
     requires { ⌜ (1 ≤ depth) × (depth ≤ 100000000) ⌝ }
-    requires { ⌜ Apart opening closing ⌝ }
-    ensures { λ r. ⌜ Finds opening closing depth (r .place) (r .depth) ⌝ }
+    requires { ⌜ (block ≡ countedOf (block .words)) × Apart (block .words .opening) (block .words .closing) ⌝ }
+    ensures { λ r. ⌜ Finds (block .words .opening) (block .words .closing) depth (r .place) (r .depth) ⌝ }
 {
-    let closed = count(closing);
+    let opened = block.opened as usize;
+    let closed = block.closed as usize;
     if closed < depth {
         return Found {
             place: BLOCK,
-            depth: depth + count(opening) - closed,
+            depth: depth + opened - closed,
         };
     }
-    find_closing(opening, closing, depth)
+    let w = block.words;
+    find_closing(w.opening, w.closing, depth)
 }
 
 // Looks at one byte in each of eight blocks, eight blocks before their turn, so that they are at hand by then: whether all are 0, as they
@@ -113,15 +108,15 @@ fn zeros_ahead(rest: &[u8]) -> bool {
 
 // The words of the block at the front of a part. The sorter takes a full block straight away, but for one with zeros ahead: some use has
 // to be made of that look, or the compiler leaves it out.
-fn next_words(rest: &[u8], look: bool, inside: bool, odd: bool) -> Words
-    ensures { λ r. ⌜ Sorted (now (rest .entry)) inside odd r ⌝ }
+fn next_words(rest: &[u8], look: bool, inside: bool, odd: bool) -> Counted
+    ensures { λ r. ⌜ SortedCounted (now (rest .entry)) inside odd r ⌝ }
 {
     if rest.len() < BLOCK {
-        return sort_block(rest, inside, odd);
+        return count(sort_block(rest, inside, odd));
     }
     if look {
         if zeros_ahead(rest) {
-            return sort_block(rest, inside, odd);
+            return count(sort_block(rest, inside, odd));
         }
     }
     sort_full(rest, inside, odd)
@@ -148,8 +143,9 @@ fn leave_blocks(record: &[u8], at: usize, kept: &mut [u64; KEPT]) -> usize
     let mut depth: usize = 1;
     while i < record.len() {
         let look = (i - at) % AHEAD == LOOK;
-        let w = next_words(&record[i..], look, inside, odd);
-        let found = pass_block(w.opening, w.closing, depth);
+        let block = next_words(&record[i..], look, inside, odd);
+        let found = pass_block(block, depth);
+        let w = block.words;
         let place = found.place;
         if place < BLOCK {
             kept[END] = (i + BLOCK) as u64;

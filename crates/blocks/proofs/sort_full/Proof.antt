@@ -1,6 +1,6 @@
 -- The words of the bytes' places as they are marked are those of the block, and the last place says the two facts. Assumes nothing.
 use Rattle.blocks.proofs.Sort.{quotes-full, strings-full, opening-full, closing-full, inside-last, odd-last}
-use mathlib.Core.Path.{_∙_}
+use mathlib.Core.Path.{refl, _∙_}
 use native.Mathlib.Omega.{arith}
 use borrow.Author.Needs.{needs}
 use Rattle.blocks.proofs.sort_full.Statement.{statement}
@@ -15,19 +15,27 @@ mark-requires c κs = search needs
 has-requires : tie.Need-has-requires
 has-requires c κs = search needs
 
+count-requires : tie.Need-count-requires
+count-requires c κs = search needs
+
 returns : tie.Need-returns
 returns c =
-    let long = c .before .before .before .before .before .before .before .pre in
-    let classes = c .before .before .before .before .before .classify .ensures in
-    let marked = c .before .before .before .before .mark .ensures in
-    record {
-      quotes-are = quotes-full _ _ _ _ _ _ _ _ _ _ classes marked long (omega arith);
-      strings-are = strings-full _ _ _ _ _ _ _ _ _ _ classes marked long (omega arith);
-      opening-are = opening-full _ _ _ _ _ _ _ _ _ _ classes marked long (omega arith);
-      closing-are = closing-full _ _ _ _ _ _ _ _ _ _ classes marked long (omega arith);
-      inside-is = c .has .ensures ∙ inside-last _ _ _ _ _ _ _ _ _ _ classes marked long;
-      odd-is = odd-last _ _ _ _ _ _ _ _ _ _ classes marked long;
-    }
+    let sorting = c .before in
+    let long = sorting .before .before .before .before .before .before .before .pre in
+    let classes = sorting .before .before .before .before .before .classify .ensures in
+    let marked = sorting .before .before .before .before .mark .ensures in
+    rw (c .count .ensures)
+    (record {
+      sorted = record {
+        quotes-are = quotes-full _ _ _ _ _ _ _ _ _ _ classes marked long (omega arith);
+        strings-are = strings-full _ _ _ _ _ _ _ _ _ _ classes marked long (omega arith);
+        opening-are = opening-full _ _ _ _ _ _ _ _ _ _ classes marked long (omega arith);
+        closing-are = closing-full _ _ _ _ _ _ _ _ _ _ classes marked long (omega arith);
+        inside-is = sorting .has .ensures ∙ inside-last _ _ _ _ _ _ _ _ _ _ classes marked long;
+        odd-is = odd-last _ _ _ _ _ _ _ _ _ _ classes marked long;
+      };
+      counted = refl;
+    })
 
 pub sort-full-spec : {M : Type 1} → statement M
-sort-full-spec = tie.close (tie.spec classify-requires mark-requires has-requires returns)
+sort-full-spec = tie.close (tie.spec classify-requires mark-requires has-requires count-requires returns)

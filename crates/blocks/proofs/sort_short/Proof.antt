@@ -22,9 +22,10 @@ odd-after-requires c κs = search needs
 
 returns : tie.Need-returns
 returns c =
-    let short = c .before .before .before .before .before .before .before .before .before .before .pre in
-    let pad = c .before .before .before .before .before .before .before .before .padded .ensures in
-    let sorted = c .before .before .before .before .before .before .sort-full .ensures in
+    let full = c .before .before .before .before .before .before .before in
+    let short = full .before .before .before .before .pre in
+    let pad = full .before .before .padded .ensures in
+    let sorted = full .sort-full .ensures .sorted in
     let mask = c .before .before .before .before .before .size-mask .ensures in
     record {
       quotes-are = quotes-cut _ _ short pad _ _ _ sorted _ mask;

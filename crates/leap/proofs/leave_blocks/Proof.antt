@@ -37,7 +37,7 @@ next-words-requires c κs = search needs
 pass-block-requires : tie.Need-pass-block-requires Inv-loop μ-loop
 pass-block-requires c κs =
     let v = c .before .before .before .loop .inv .0 in
-    ((v .some, omega (arith, v .few)), apart v (c .next-words .ensures))
+    ((v .some, omega (arith, v .few)), (c .next-words .ensures .counted, apart v (c .next-words .ensures .sorted)))
 
 add-kept : tie.Need-add-kept Inv-loop μ-loop
 add-kept c = search needs
@@ -59,10 +59,10 @@ add-result-2 c = search needs
 
 returns : tie.Need-returns Inv-loop μ-loop
 returns c =
-    let t = c .before .before .before .before in
+    let t = c .before .before .before .before .before in
     let v = t .before .loop .inv in
-    let words = c .before .before .next-words .ensures in (
-      block-found (v .0) words (c .before .pass-block .ensures) (t .loop-test .taken) (c .if1 .taken),
+    let words = c .before .before .before .next-words .ensures .sorted in (
+      block-found (v .0) words (c .before .before .pass-block .ensures) (t .loop-test .taken) (c .if1 .taken),
       block-kept _ _ (t .before .loop .i) (sorted (v .0) words) (v .1),
     )
 
@@ -71,10 +71,10 @@ sub-if2 c = search needs
 
 returns-2 : tie.Need-returns-2 Inv-loop μ-loop
 returns-2 c =
-    let f = c .before .before in
+    let f = c .before .before .before in
     let t = f .before .before .before in
     let v = t .before .loop .inv in
-    (block-last (v .0) (f .before .next-words .ensures) (f .pass-block .ensures) (t .loop-test .taken) (c .before .if1 .left) (c .if2 .taken), v .1)
+    (block-last (v .0) (f .before .next-words .ensures .sorted) (f .pass-block .ensures) (t .loop-test .taken) (c .before .if1 .left) (c .if2 .taken), v .1)
 
 add-i : tie.Need-add-i Inv-loop μ-loop
 add-i c = search needs
@@ -84,9 +84,9 @@ loop-less c = search needs
 
 loop-again : tie.Need-loop-again Inv-loop μ-loop
 loop-again c =
-    let f = c .before .before in
+    let f = c .before .before .before in
     let v = f .before .before .before .before .loop .inv in
-    (block-next (v .0) (f .before .next-words .ensures) (f .pass-block .ensures) (c .before .if1 .left) (c .if2 .left), v .1)
+    (block-next (v .0) (f .before .next-words .ensures .sorted) (f .pass-block .ensures) (c .before .if1 .left) (c .if2 .left), v .1)
 
 returns-3 : tie.Need-returns-3 Inv-loop μ-loop
 returns-3 c = (tracked-out (c .before .loop .inv .0) (c .loop-test .left), c .before .loop .inv .1)
