@@ -18,7 +18,7 @@ ghost use Prim.Native.Nat.{_≤_};
 ghost use lib.ListN.{length};
 ghost use Rattle.encoding.specs.ClassTable.{ClassTable};
 ghost use Rattle.json.specs.Verdict.{maxBytes, maxDepth};
-ghost use Rattle.marks.specs.Advances.{Fits};
+ghost use Rattle.marks.specs.Advances.{Fits, Bounds};
 ghost use Rattle.walk.specs.Walks.{Walks};
 ghost use Rattle.jumping.specs.Pile.{pile};
 ghost use Rattle.jumping.specs.Turns.{RootMarks, Starts, Comes, GoesOn, Turns};
@@ -63,11 +63,13 @@ fn start(record: &[u8], count: usize) -> Standing
 fn coming(
     query: &[u8],
     steps: Compiled,
+    starts: &[u16; 16],
+    ends: &[u16; 16],
     record: &[u8],
     a: Standing,
     brackets: &[u8; MAX_DEPTH],
 ) -> Coming
-    requires { ⌜ Fits (now query) steps ⌝ }
+    requires { ⌜ Fits (now query) steps × Bounds steps (now starts) (now ends) ⌝ }
     requires { ⌜ a .at ≤ length (now «record») ⌝ }
     requires { ⌜ (a .item ≡ true) × (a .depth ≤ maxDepth) ⌝ }
     ensures { λ r. ⌜ Comes (now (query .entry)) steps (now («record» .entry)) (now (brackets .entry)) a r ⌝ }
@@ -86,7 +88,7 @@ fn coming(
     let item = enter_item(record, at, object);
     let from = item.from;
     let to = item.to;
-    let child = advance(query, steps, marks, record, from, to, object);
+    let child = advance(query, steps, starts, ends, marks, record, from, to, object);
     Coming {
         at: item.value,
         marks: child.marks,
@@ -147,6 +149,8 @@ fn turn(
     classes: &[u8; 256],
     query: &[u8],
     steps: Compiled,
+    starts: &[u16; 16],
+    ends: &[u16; 16],
     record: &[u8],
     a: Standing,
     list: &mut [u32],
@@ -156,7 +160,7 @@ fn turn(
     brackets: &mut [u8; MAX_DEPTH],
 ) -> Standing
     requires { ⌜ ClassTable (now classes) ⌝ }
-    requires { ⌜ Fits (now query) steps ⌝ }
+    requires { ⌜ Fits (now query) steps × Bounds steps (now starts) (now ends) ⌝ }
     requires { ⌜ (length (now «record») ≤ maxBytes) × (a .at ≤ length (now «record»)) ⌝ }
     requires { ⌜ (a .depth ≤ maxDepth) × (a .frames ≤ maxDepth) × (a .item ≡ false → a .depth ≡ 0 → ⊥) ⌝ }
     ensures { λ r. ⌜ Turns (now (query .entry)) steps (now («record» .entry))
@@ -167,7 +171,7 @@ fn turn(
     if !a.item {
         return past(record, a, list, levels, held, waits);
     }
-    let v = coming(query, steps, record, a, brackets);
+    let v = coming(query, steps, starts, ends, record, a, brackets);
     value(classes, record, v, a, list, levels, held, waits, brackets)
 }
 
@@ -179,6 +183,8 @@ pub fn walk_jumping(query: &[u8], steps: Compiled, record: &[u8], list: &mut [u3
     ensures { λ r. ⌜ Walks (now (query .entry)) steps (now («record» .entry)) (now (list .entry)) (now (list .exit)) (r .used) (r .peak) (r .stop) ⌝ }
 {
     let classes = classes();
+    let starts = steps.starts;
+    let ends = steps.ends;
     let mut levels: [u16; MAX_DEPTH] = [0; MAX_DEPTH];
     let mut held: [u16; MAX_DEPTH] = [0; MAX_DEPTH];
     let mut waits: [usize; MAX_DEPTH] = [0; MAX_DEPTH];
@@ -189,6 +195,8 @@ pub fn walk_jumping(query: &[u8], steps: Compiled, record: &[u8], list: &mut [u3
             &classes,
             query,
             steps,
+            &starts,
+            &ends,
             record,
             a,
             list,

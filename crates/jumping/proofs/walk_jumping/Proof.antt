@@ -1,6 +1,6 @@
 -- The loop's invariant: what was ahead before the root still is. Each turn leaves fewer; when the root is passed nothing is ahead, and the
 -- tally is that of all nodes. Assumes nothing.
-use mathlib.Core.Path.{_∙_}
+use mathlib.Core.Path.{refl, _∙_}
 use lib.ListN.{length}
 use Rattle.jumping.specs.Pile.{pile}
 use Rattle.jumping.specs.Turns.{turnsLeft}
@@ -11,11 +11,11 @@ use Rattle.jumping.proofs.walk_jumping.Statement.{statement}
 use Rattle.jumping.proofs.walk_jumping.Tie as tie
 
 abbrev Inv-loop : tie.InvT-loop
-Inv-loop query steps «record» list₀ classes levels₀ held₀ waits₀ brackets₀ a₀ list levels held waits brackets a =
+Inv-loop query steps «record» list₀ classes starts ends levels₀ held₀ waits₀ brackets₀ a₀ list levels held waits brackets a =
     Running query steps «record» (pile levels₀ held₀ waits₀ brackets₀) list₀ a₀ (pile levels held waits brackets) list a
 
 abbrev μ-loop : tie.MeasureT-loop
-μ-loop query steps «record» list₀ classes levels₀ held₀ waits₀ brackets₀ a₀ list levels held waits brackets a =
+μ-loop query steps «record» list₀ classes starts ends levels₀ held₀ waits₀ brackets₀ a₀ list levels held waits brackets a =
     turnsLeft (length «record») (a .at) (a .item)
 
 classes-requires : tie.Need-classes-requires Inv-loop μ-loop
@@ -29,22 +29,27 @@ loop-holds c = running-starts (c .start .ensures)
 
 turn-requires : tie.Need-turn-requires Inv-loop μ-loop
 turn-requires c κs =
-    let at-loop = c .before .before .before .before .before .before in
-    let at-classes = at-loop .before .before in
+    let at-loop = c .before .before .before .before .before .before .before .before in
+    let at-classes = at-loop .before .before .before .before in
     let pre = at-classes .before .before .before .before .pre in
-    let still = at-loop .loop .inv in
-    (at-classes .classes .ensures, (pre .0, ((pre .1, still .inside), (still .room, still .few, still .in-container))))
+    let still = at-loop .loop .inv in (
+      at-classes .classes .ensures,
+      (
+        (pre .0, record { starts-are = refl; ends-are = refl }),
+        ((pre .1, still .inside), (still .room, still .few, still .in-container)),
+      ),
+    )
 
 same-length : tie.Need-same-length Inv-loop μ-loop
 same-length c =
     let at-turn = c .before .before .before in
-    let at-loop = at-turn .before .before .before .before .before .before .before in
-    at-turn .turn .kept .1 .1 .1 .1 .1 .0 ∙ at-loop .loop .inv .size-is
+    let at-loop = at-turn .before .before .before .before .before .before .before .before .before in
+    at-turn .turn .kept .1 .1 .1 .1 .1 .1 .1 .0 ∙ at-loop .loop .inv .size-is
 
 returns : tie.Need-returns Inv-loop μ-loop
 returns c =
     let at-turn = c .before .before .before in
-    let at-loop = at-turn .before .before .before .before .before .before .before in
+    let at-loop = at-turn .before .before .before .before .before .before .before .before .before in
     let at-start = at-loop .before in
     walk-ends (at-loop .loop .inv) (at-turn .turn .ensures) (at-start .start .ensures) clear-sized (c .if1 .taken)
 
@@ -54,8 +59,8 @@ loop-less c = c .before .before .before .turn .ensures .fewer
 loop-again : tie.Need-loop-again Inv-loop μ-loop
 loop-again c =
     let at-turn = c .before .before .before in
-    let at-loop = at-turn .before .before .before .before .before .before .before in
-    running-on (at-loop .loop .inv) (at-turn .turn .ensures) (at-turn .turn .kept .1 .1 .1 .1 .1 .0) (c .if1 .left)
+    let at-loop = at-turn .before .before .before .before .before .before .before .before .before in
+    running-on (at-loop .loop .inv) (at-turn .turn .ensures) (at-turn .turn .kept .1 .1 .1 .1 .1 .1 .1 .0) (c .if1 .left)
 
 pub walk-jumping-spec : {M : Type 1} → statement M
 walk-jumping-spec =
