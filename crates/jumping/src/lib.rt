@@ -21,7 +21,7 @@ ghost use lib.ListN.{length};
 ghost use Rattle.encoding.specs.ClassTable.{ClassTable};
 ghost use Rattle.json.specs.Verdict.{maxBytes, maxDepth};
 ghost use Rattle.leap.specs.Passing.{Kept};
-ghost use Rattle.marks.specs.Advances.{Fits};
+ghost use Rattle.marks.specs.Advances.{Fits, Bounds};
 ghost use Rattle.walk.specs.Walks.{Walks};
 ghost use Rattle.jumping.specs.Pile.{pile};
 ghost use Rattle.jumping.specs.Turns.{RootMarks, Starts, Comes, GoesOn, Turns};
@@ -66,11 +66,13 @@ fn start(record: &[u8], count: usize) -> Standing
 fn coming(
     query: &[u8],
     steps: Compiled,
+    starts: &[u16; 16],
+    ends: &[u16; 16],
     record: &[u8],
     a: Standing,
     brackets: &[u8; MAX_DEPTH],
 ) -> Coming
-    requires { ⌜ Fits (now query) steps ⌝ }
+    requires { ⌜ Fits (now query) steps × Bounds steps (now starts) (now ends) ⌝ }
     requires { ⌜ a .at ≤ length (now «record») ⌝ }
     requires { ⌜ (a .item ≡ true) × (a .depth ≤ maxDepth) ⌝ }
     ensures { λ r. ⌜ Comes (now (query .entry)) steps (now («record» .entry)) (now (brackets .entry)) a r ⌝ }
@@ -89,7 +91,7 @@ fn coming(
     let item = enter_item(record, at, object);
     let from = item.from;
     let to = item.to;
-    let child = advance(query, steps, marks, record, from, to, object);
+    let child = advance(query, steps, starts, ends, marks, record, from, to, object);
     Coming {
         at: item.value,
         marks: child.marks,
@@ -150,6 +152,8 @@ fn turn(
     classes: &[u8; 256],
     query: &[u8],
     steps: Compiled,
+    starts: &[u16; 16],
+    ends: &[u16; 16],
     record: &[u8],
     a: Standing,
     list: &mut [u32],
@@ -160,7 +164,7 @@ fn turn(
     block: &mut [u64; KEPT],
 ) -> Standing
     requires { ⌜ ClassTable (now classes) ⌝ }
-    requires { ⌜ Fits (now query) steps ⌝ }
+    requires { ⌜ Fits (now query) steps × Bounds steps (now starts) (now ends) ⌝ }
     requires { ⌜ (length (now «record») ≤ maxBytes) × (a .at ≤ length (now «record»)) ⌝ }
     requires { ⌜ (a .depth ≤ maxDepth) × (a .frames ≤ maxDepth) × (a .item ≡ false → a .depth ≡ 0 → ⊥) ⌝ }
     requires { ⌜ Kept (now «record») (now block) ⌝ }
@@ -173,7 +177,7 @@ fn turn(
     if !a.item {
         return past(record, a, list, levels, held, waits);
     }
-    let v = coming(query, steps, record, a, brackets);
+    let v = coming(query, steps, starts, ends, record, a, brackets);
     value(
         classes,
         record,
@@ -196,6 +200,8 @@ pub fn walk_jumping(query: &[u8], steps: Compiled, record: &[u8], list: &mut [u3
     ensures { λ r. ⌜ Walks (now (query .entry)) steps (now («record» .entry)) (now (list .entry)) (now (list .exit)) (r .used) (r .peak) (r .stop) ⌝ }
 {
     let classes = classes();
+    let starts = steps.starts;
+    let ends = steps.ends;
     let mut levels: [u16; MAX_DEPTH] = [0; MAX_DEPTH];
     let mut held: [u16; MAX_DEPTH] = [0; MAX_DEPTH];
     let mut waits: [usize; MAX_DEPTH] = [0; MAX_DEPTH];
@@ -207,6 +213,8 @@ pub fn walk_jumping(query: &[u8], steps: Compiled, record: &[u8], list: &mut [u3
             &classes,
             query,
             steps,
+            &starts,
+            &ends,
             record,
             a,
             list,

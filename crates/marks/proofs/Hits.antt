@@ -8,11 +8,12 @@ use native.Mathlib.Omega.{arith}
 use borrow.Author.Tests.{lt-ltb, le-ltb, eq-eqb, ne-eqb, eqb-true, eqb-false}
 use lib.Bits.{bitAnd}
 use lib.Dec.{ltb, eqb}
-use lib.ListN.{getD}
+use lib.ListN.{length, getD}
 use lib.Seq.{slice}
 use Rattle.bits.specs.Bits.{bit, Lowest}
 use Rattle.bits.specs.Laws.{lt-or-ge, bit-zero, bit-test, bit-shr}
-use Rattle.marks.specs.Advances.{namedHit}
+use Rattle.marks.specs.Advances.{Fits, Bounds, namedHit}
+use Rattle.query.specs.Verdict.{maxSteps}
 use Rattle.query.specs.declared.compiled.Compiled.{Compiled}
 use Rattle.select.specs.Ways.{sameName, frameIf}
 
@@ -24,21 +25,32 @@ pub frames-more : (a m k : ℕ) → (a ≡ m → ⊥) → k + 1 ≡ frameIf (eqb
 unfolding frameIf
 frames-more a m k e = sym (ap (λ (b : Bool). frameIf b k) (ne-eqb a m e))
 
--- one step with a name
-module _ (q : List ℕ) (c : Compiled) (m : ℕ) (name : List ℕ) (i x : ℕ) (shift : x ≡ bitAnd (m / 2 ^ i) 1) where
-  pub hit-off : (x ≡ 1 → ⊥) → false ≡ namedHit q c m name i
-  unfolding namedHit
-  hit-off f =
-      sym
-      (ap (λ (b : Bool). b && sameName (slice (getD (c .starts) i 0) (getD (c .ends) i 0) q) name)
-      (sym (bit-test m i) ∙ ap (λ (y : ℕ). eqb y 1) (sym shift) ∙ ne-eqb x 1 f))
+-- one mark, and what is asked only where it is on
+module _ (m i x : ℕ) (asked : Bool) (shift : x ≡ bitAnd (m / 2 ^ i) 1) where
+  pub hit-off : (x ≡ 1 → ⊥) → false ≡ (bit i m && asked)
+  hit-off f = sym (ap (λ (b : Bool). b && asked) (sym (bit-test m i) ∙ ap (λ (y : ℕ). eqb y 1) (sym shift) ∙ ne-eqb x 1 f))
 
-  pub hit-on : x ≡ 1 → sameName (slice (getD (c .starts) i 0) (getD (c .ends) i 0) q) name ≡ namedHit q c m name i
-  unfolding namedHit
-  hit-on f =
-      sym
-      (ap (λ (b : Bool). b && sameName (slice (getD (c .starts) i 0) (getD (c .ends) i 0) q) name)
-      (sym (bit-test m i) ∙ ap (λ (y : ℕ). eqb y 1) (sym shift) ∙ eq-eqb x 1 f))
+  pub hit-on : x ≡ 1 → asked ≡ (bit i m && asked)
+  hit-on f = sym (ap (λ (b : Bool). b && asked) (sym (bit-test m i) ∙ ap (λ (y : ℕ). eqb y 1) (sym shift) ∙ eq-eqb x 1 f))
+
+-- mark i is on, and the name between the bounds at i is this one
+unfoldable pub boundHit : (q starts ends : List ℕ) (marks : ℕ) (name : List ℕ) → ℕ → Bool
+unfolding bit sameName
+boundHit q starts ends m name i = bit i m && sameName (slice (getD starts i 0) (getD ends i 0) q) name
+
+-- the bounds beside a compiled query are those of its names
+module _ {c : Compiled} {starts ends : List ℕ} (b : Bounds c starts ends) where
+  module _ {q : List ℕ} (f : Fits q c) (i : ℕ) (l : i < maxSteps) where
+    pub bounds-order : getD starts i 0 ≤ getD ends i 0
+    bounds-order = rw (b .starts-are, b .ends-are) (f .order i l)
+
+    pub bounds-within : getD ends i 0 ≤ length q
+    bounds-within = rw (b .ends-are) (f .within i l)
+
+  pub bounds-named : (q : List ℕ) (m : ℕ) (name : List ℕ) (n r : ℕ) → ((i : ℕ) → bit i r ≡ (ltb i n && boundHit q starts ends m name i))
+      → (i : ℕ) → bit i r ≡ (ltb i n && namedHit q c m name i)
+  unfolding namedHit boundHit
+  bounds-named q m name n r f i = rw (b .starts-are, b .ends-are) at (f i)
 
 -- the bits below i are what f says of the steps, and none is on from i
 pub record Upto (f : ℕ → Bool) (count h i : ℕ) : Type 0 where
@@ -81,15 +93,15 @@ module _ (f : ℕ → Bool) (count : ℕ) where
     upto-off off = by (λ j k. ap (λ (b : Bool). ltb j count && b) (off j k) ∙ and-false (ltb j count))
 
 -- a step whose mark is off takes nothing: those below the lowest mark, and those from i on where no mark is left
-module _ (q : List ℕ) (c : Compiled) (m : ℕ) (name : List ℕ) where
-  off-hit : (j : ℕ) → bit j m ≡ false → namedHit q c m name j ≡ false
-  unfolding namedHit
-  off-hit j e = ap (λ (b : Bool). b && sameName (slice (getD (c .starts) j 0) (getD (c .ends) j 0) q) name) e
+module _ (q starts ends : List ℕ) (m : ℕ) (name : List ℕ) where
+  off-hit : (j : ℕ) → bit j m ≡ false → boundHit q starts ends m name j ≡ false
+  unfolding boundHit
+  off-hit j e = ap (λ (b : Bool). b && sameName (slice (getD starts j 0) (getD ends j 0) q) name) e
 
-  pub below-lowest : (i : ℕ) → Lowest 64 m i → (j : ℕ) → j < i → namedHit q c m name j ≡ false
+  pub below-lowest : (i : ℕ) → Lowest 64 m i → (j : ℕ) → j < i → boundHit q starts ends m name j ≡ false
   below-lowest i x j l = off-hit j (x .none-below j l)
 
-  pub none-left : (i : ℕ) → m / 2 ^ i ≡ 0 → (j : ℕ) → i ≤ j → namedHit q c m name j ≡ false
+  pub none-left : (i : ℕ) → m / 2 ^ i ≡ 0 → (j : ℕ) → i ≤ j → boundHit q starts ends m name j ≡ false
   none-left i e j l =
       let z : i + (j - i) ≡ j = omega arith in
       off-hit j (ap (λ (k : ℕ). bit k m) (sym z) ∙ sym (bit-shr i (j - i) m) ∙ ap (bit (j - i)) e ∙ bit-zero (j - i))

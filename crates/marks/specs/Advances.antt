@@ -23,6 +23,11 @@ pub record Fits (q : List ℕ) (c : Compiled) : Type 0 where
   pub order : (i : ℕ) → i < maxSteps → getD (c .starts) i 0 ≤ getD (c .ends) i 0
   pub within : (i : ℕ) → i < maxSteps → getD (c .ends) i 0 ≤ length q
 
+-- the bounds of the names of a compiled query, beside it
+pub record Bounds (c : Compiled) (starts ends : List ℕ) : Type 0 where
+  pub starts-are : starts ≡ c .starts
+  pub ends-are : ends ≡ c .ends
+
 -- mark i is on, and the name of step i is this one
 unfoldable pub namedHit : List ℕ → Compiled → (marks : ℕ) → (name : List ℕ) → ℕ → Bool
 unfolding bit sameName

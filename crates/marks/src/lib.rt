@@ -4,12 +4,12 @@ ghost use mathlib.Core.Path.{_≡_};
 ghost use mathlib.Core.Bool.{Bool, true, false, _&&_};
 ghost use Prim.Native.Nat.{ℕ, _≤_, _<_};
 ghost use lib.Dec.{ltb, eqb};
-ghost use lib.ListN.{length, getD};
+ghost use lib.ListN.{length};
 ghost use lib.Seq.{slice};
 ghost use Rattle.bits.specs.Bits.{bit};
 ghost use Rattle.query.specs.Verdict.{maxSteps};
 ghost use Rattle.select.specs.Ways.{sameName, frameIf};
-ghost use Rattle.marks.specs.Advances.{Fits, namedHit, Taken, Advances};
+ghost use Rattle.marks.specs.Advances.{Fits, Bounds, namedHit, Taken, Advances};
 
 // A child's marks, and whether it is picked out.
 pub struct Advanced {
@@ -38,40 +38,40 @@ fn same_name(query: &[u8], from: usize, to: usize, record: &[u8], x: usize, y: u
     true
 }
 
-// Whether the name of step `i` is the record's bytes from `x` to `y`.
-fn takes_name(query: &[u8], steps: Compiled, i: usize, record: &[u8], x: usize, y: usize) -> bool
-    requires { ⌜ Fits (now query) steps × (i < maxSteps) ⌝ }
-    requires { ⌜ (x ≤ y) × (y ≤ length (now «record»)) ⌝ }
-    ensures { λ r. ⌜ r ≡ sameName (slice (getD (steps .starts) i 0) (getD (steps .ends) i 0) (now (query .entry))) (slice x y (now («record» .entry))) ⌝ }
-{
-    let from = steps.starts[i] as usize;
-    let to = steps.ends[i] as usize;
-    same_name(query, from, to, record, x, y)
-}
-
-// Whether the mark of step `i` is among the marks, and the step's name is the record's bytes from `x` to `y`.
+// Whether mark `i` is among the marks, and the query's bytes from `from` to `to` are the record's from `x` to `y`.
 fn hit(
     query: &[u8],
-    steps: Compiled,
     marks: u16,
     i: usize,
+    from: usize,
+    to: usize,
     record: &[u8],
     x: usize,
     y: usize,
 ) -> bool
-    requires { ⌜ Fits (now query) steps × (i < maxSteps) ⌝ }
+    requires { ⌜ i < maxSteps ⌝ }
+    requires { ⌜ (from ≤ to) × (to ≤ length (now query)) ⌝ }
     requires { ⌜ (x ≤ y) × (y ≤ length (now «record»)) ⌝ }
-    ensures { λ r. ⌜ r ≡ namedHit (now (query .entry)) steps marks (slice x y (now («record» .entry))) i ⌝ }
+    ensures { λ r. ⌜ r ≡ (bit i marks && sameName (slice from to (now (query .entry))) (slice x y (now («record» .entry)))) ⌝ }
 {
     if marks >> i & 1 != 1 {
         return false;
     }
-    takes_name(query, steps, i, record, x, y)
+    same_name(query, from, to, record, x, y)
 }
 
 // Of the marks, those of steps whose name is the record's bytes from `x` to `y`. Steps before the first mark and after the last are not asked.
-fn named(query: &[u8], steps: Compiled, marks: u16, record: &[u8], x: usize, y: usize) -> u16
-    requires { ⌜ Fits (now query) steps ⌝ }
+fn named(
+    query: &[u8],
+    steps: Compiled,
+    starts: &[u16; 16],
+    ends: &[u16; 16],
+    marks: u16,
+    record: &[u8],
+    x: usize,
+    y: usize,
+) -> u16
+    requires { ⌜ Fits (now query) steps × Bounds steps (now starts) (now ends) ⌝ }
     requires { ⌜ (x ≤ y) × (y ≤ length (now «record»)) ⌝ }
     ensures { λ r. ⌜ ((i : ℕ) → bit i r ≡ (ltb i (steps .count) && namedHit (now (query .entry)) steps marks (slice x y (now («record» .entry))) i)) ⌝ }
 {
@@ -82,7 +82,9 @@ fn named(query: &[u8], steps: Compiled, marks: u16, record: &[u8], x: usize, y: 
         if marks >> i == 0 {
             return hits;
         }
-        let on = hit(query, steps, marks, i, record, x, y);
+        let from = starts[i] as usize;
+        let to = ends[i] as usize;
+        let on = hit(query, marks, i, from, to, record, x, y);
         hits = bits::with_bit(hits, i, on);
         i += 1;
     }
@@ -93,13 +95,15 @@ fn named(query: &[u8], steps: Compiled, marks: u16, record: &[u8], x: usize, y: 
 fn taken(
     query: &[u8],
     steps: Compiled,
+    starts: &[u16; 16],
+    ends: &[u16; 16],
     marks: u16,
     record: &[u8],
     x: usize,
     y: usize,
     object: bool,
 ) -> u16
-    requires { ⌜ Fits (now query) steps ⌝ }
+    requires { ⌜ Fits (now query) steps × Bounds steps (now starts) (now ends) ⌝ }
     requires { ⌜ (x ≤ y) × (y ≤ length (now «record»)) ⌝ }
     ensures { λ r. ⌜ Taken (now (query .entry)) steps marks (slice x y (now («record» .entry))) object r ⌝ }
 {
@@ -111,20 +115,23 @@ fn taken(
     if live == 0 {
         return every;
     }
-    every | named(query, steps, live, record, x, y)
+    every | named(query, steps, starts, ends, live, record, x, y)
 }
 
-// The marks of a child from its parent's, and whether the child is picked out.
+// The marks of a child from its parent's, and whether the child is picked out. The bounds of the steps' names are lent
+// beside the steps, so that they are not copied at each name.
 pub fn advance(
     query: &[u8],
     steps: Compiled,
+    starts: &[u16; 16],
+    ends: &[u16; 16],
     marks: u16,
     record: &[u8],
     x: usize,
     y: usize,
     object: bool,
 ) -> Advanced
-    requires { ⌜ Fits (now query) steps ⌝ }
+    requires { ⌜ Fits (now query) steps × Bounds steps (now starts) (now ends) ⌝ }
     requires { ⌜ (x ≤ y) × (y ≤ length (now «record»)) ⌝ }
     ensures { λ r. ⌜ Advances (now (query .entry)) steps marks (slice x y (now («record» .entry))) object (r .marks) (r .picked) ⌝ }
 {
@@ -135,7 +142,7 @@ pub fn advance(
             picked: false,
         };
     }
-    let hits = taken(query, steps, marks, record, x, y, object);
+    let hits = taken(query, steps, starts, ends, marks, record, x, y, object);
     let last = count - 1;
     let all = ((1u32 << count) - 1) as u16;
     let picked = hits >> last & 1 == 1;

@@ -5,7 +5,7 @@ ghost use Prim.Native.Nat.{_+_, _≤_, _<_};
 ghost use lib.ListN.{length};
 ghost use Rattle.encoding.specs.ClassTable.{ClassTable};
 ghost use Rattle.json.specs.Verdict.{maxBytes, maxDepth};
-ghost use Rattle.marks.specs.Advances.{Fits};
+ghost use Rattle.marks.specs.Advances.{Fits, Bounds};
 ghost use Rattle.walk.specs.Walks.{Walks};
 ghost use Rattle.plain.specs.Plain.{stateOf, tallyOf, Starts, EntersChild, WalksValue, WalksItems};
 
@@ -62,18 +62,30 @@ fn root_state(count: usize) -> State
 fn enter_child(
     query: &[u8],
     steps: Compiled,
+    starts: &[u16; 16],
+    ends: &[u16; 16],
     record: &[u8],
     at: usize,
     object: bool,
     around: State,
 ) -> Child
-    requires { ⌜ Fits (now query) steps ⌝ }
+    requires { ⌜ Fits (now query) steps × Bounds steps (now starts) (now ends) ⌝ }
     requires { ⌜ (at ≤ length (now «record»)) × (around .frames < maxDepth) ⌝ }
     ensures { λ r. ⌜ EntersChild (now (query .entry)) steps (now («record» .entry)) at object (stateOf around) (r .at) (stateOf (r .state)) ⌝ }
 {
     let item = scan::enter_item(record, at, object);
     let above = around.marks;
-    let next = marks::advance(query, steps, above, record, item.from, item.to, object);
+    let next = marks::advance(
+        query,
+        steps,
+        starts,
+        ends,
+        above,
+        record,
+        item.from,
+        item.to,
+        object,
+    );
     let frames = marks::framed(above, next.marks, around.frames);
     Child {
         at: item.value,
@@ -91,6 +103,8 @@ fn walk_value(
     classes: &[u8; 256],
     query: &[u8],
     steps: Compiled,
+    starts: &[u16; 16],
+    ends: &[u16; 16],
     record: &[u8],
     at: usize,
     left: usize,
@@ -99,7 +113,7 @@ fn walk_value(
     counts: Counts,
 ) -> Walked
     requires { ⌜ ClassTable (now classes) ⌝ }
-    requires { ⌜ Fits (now query) steps ⌝ }
+    requires { ⌜ Fits (now query) steps × Bounds steps (now starts) (now ends) ⌝ }
     requires { ⌜ (length (now «record») ≤ maxBytes) × (at ≤ length (now «record»)) × (node .frames + left ≤ maxDepth) ⌝ }
     ensures { λ r. ⌜ WalksValue (now (query .entry)) steps (now («record» .entry)) at left (stateOf node) (tallyOf (now (list .entry)) counts) (tallyOf (now (list .exit)) (r .counts)) (r .end) ⌝ }
 {
@@ -130,6 +144,8 @@ fn walk_value(
         classes,
         query,
         steps,
+        starts,
+        ends,
         record,
         at + 1,
         left - 1,
@@ -148,6 +164,8 @@ fn walk_items(
     classes: &[u8; 256],
     query: &[u8],
     steps: Compiled,
+    starts: &[u16; 16],
+    ends: &[u16; 16],
     record: &[u8],
     at: usize,
     left: usize,
@@ -157,7 +175,7 @@ fn walk_items(
     counts: Counts,
 ) -> Walked
     requires { ⌜ ClassTable (now classes) ⌝ }
-    requires { ⌜ Fits (now query) steps ⌝ }
+    requires { ⌜ Fits (now query) steps × Bounds steps (now starts) (now ends) ⌝ }
     requires { ⌜ (length (now «record») ≤ maxBytes) × (at ≤ length (now «record»)) × (node .frames + left < maxDepth) ⌝ }
     ensures { λ r. ⌜ WalksItems (now (query .entry)) steps (now («record» .entry)) at left object (stateOf node) (tallyOf (now (list .entry)) counts) (tallyOf (now (list .exit)) (r .counts)) (r .end) ⌝ }
 {
@@ -172,12 +190,14 @@ fn walk_items(
     let mut i = first;
     let mut sum = counts;
     loop {
-        let child = enter_child(query, steps, record, i, object, node);
+        let child = enter_child(query, steps, starts, ends, record, i, object, node);
         let below = child.state;
         let walked = walk_value(
             classes,
             query,
             steps,
+            starts,
+            ends,
             record,
             child.at,
             left,
@@ -207,6 +227,8 @@ pub fn walk_plain(query: &[u8], steps: Compiled, record: &[u8], list: &mut [u32]
     ensures { λ r. ⌜ Walks (now (query .entry)) steps (now («record» .entry)) (now (list .entry)) (now (list .exit)) (r .used) (r .peak) (r .stop) ⌝ }
 {
     let classes = encoding::classes();
+    let starts = steps.starts;
+    let ends = steps.ends;
     let at = scan::skip_blanks(record, 0);
     let node = root_state(steps.count);
     let none = Counts {
@@ -218,6 +240,8 @@ pub fn walk_plain(query: &[u8], steps: Compiled, record: &[u8], list: &mut [u32]
         &classes,
         query,
         steps,
+        &starts,
+        &ends,
         record,
         at,
         MAX_DEPTH,

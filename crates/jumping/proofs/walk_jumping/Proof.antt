@@ -1,6 +1,6 @@
 -- The loop's invariant: what was ahead before the root still is. Each turn leaves fewer; when the root is passed nothing is ahead, and the
 -- tally is that of all nodes. Assumes nothing.
-use mathlib.Core.Path.{_∙_}
+use mathlib.Core.Path.{refl, _∙_}
 use lib.ListN.{length}
 use Rattle.leap.specs.Passing.{Kept}
 use Rattle.jumping.specs.Pile.{pile}
@@ -12,11 +12,11 @@ use Rattle.jumping.proofs.walk_jumping.Statement.{statement}
 use Rattle.jumping.proofs.walk_jumping.Tie as tie
 
 abbrev Inv-loop : tie.InvT-loop
-Inv-loop query steps «record» list₀ classes levels₀ held₀ waits₀ brackets₀ block₀ a₀ list levels held waits brackets block a =
+Inv-loop query steps «record» list₀ classes starts ends levels₀ held₀ waits₀ brackets₀ block₀ a₀ list levels held waits brackets block a =
     Running query steps «record» (pile levels₀ held₀ waits₀ brackets₀) list₀ a₀ (pile levels held waits brackets) list a × Kept «record» block
 
 abbrev μ-loop : tie.MeasureT-loop
-μ-loop query steps «record» list₀ classes levels₀ held₀ waits₀ brackets₀ block₀ a₀ list levels held waits brackets block a =
+μ-loop query steps «record» list₀ classes starts ends levels₀ held₀ waits₀ brackets₀ block₀ a₀ list levels held waits brackets block a =
     turnsLeft (length «record») (a .at) (a .item)
 
 classes-requires : tie.Need-classes-requires Inv-loop μ-loop
@@ -33,22 +33,27 @@ loop-holds c = (running-starts (c .start .ensures), c .before .none-kept .ensure
 
 turn-requires : tie.Need-turn-requires Inv-loop μ-loop
 turn-requires c κs =
-    let at-loop = c .before .before .before .before .before .before .before in
-    let at-classes = at-loop .before .before .before in
+    let at-loop = c .before .before .before .before .before .before .before .before .before in
+    let at-classes = at-loop .before .before .before .before .before in
     let pre = at-classes .before .before .before .before .pre in
-    let still = at-loop .loop .inv .0 in
-    (at-classes .classes .ensures, (pre .0, ((pre .1, still .inside), ((still .room, still .few, still .in-container), at-loop .loop .inv .1))))
+    let still = at-loop .loop .inv .0 in (
+      at-classes .classes .ensures,
+      (
+        (pre .0, record { starts-are = refl; ends-are = refl }),
+        ((pre .1, still .inside), ((still .room, still .few, still .in-container), at-loop .loop .inv .1)),
+      ),
+    )
 
 same-length : tie.Need-same-length Inv-loop μ-loop
 same-length c =
     let at-turn = c .before .before .before in
-    let at-loop = at-turn .before .before .before .before .before .before .before .before in
-    at-turn .turn .kept .1 .1 .1 .1 .1 .0 ∙ at-loop .loop .inv .0 .size-is
+    let at-loop = at-turn .before .before .before .before .before .before .before .before .before .before in
+    at-turn .turn .kept .1 .1 .1 .1 .1 .1 .1 .0 ∙ at-loop .loop .inv .0 .size-is
 
 returns : tie.Need-returns Inv-loop μ-loop
 returns c =
     let at-turn = c .before .before .before in
-    let at-loop = at-turn .before .before .before .before .before .before .before .before in
+    let at-loop = at-turn .before .before .before .before .before .before .before .before .before .before in
     let at-start = at-loop .before in
     walk-ends (at-loop .loop .inv .0) (at-turn .turn .ensures .0) (at-start .start .ensures) clear-sized (c .if1 .taken)
 
@@ -58,8 +63,11 @@ loop-less c = c .before .before .before .turn .ensures .0 .fewer
 loop-again : tie.Need-loop-again Inv-loop μ-loop
 loop-again c =
     let at-turn = c .before .before .before in
-    let at-loop = at-turn .before .before .before .before .before .before .before .before in
-    (running-on (at-loop .loop .inv .0) (at-turn .turn .ensures .0) (at-turn .turn .kept .1 .1 .1 .1 .1 .0) (c .if1 .left), at-turn .turn .ensures .1)
+    let at-loop = at-turn .before .before .before .before .before .before .before .before .before .before in
+    (
+      running-on (at-loop .loop .inv .0) (at-turn .turn .ensures .0) (at-turn .turn .kept .1 .1 .1 .1 .1 .1 .1 .0) (c .if1 .left),
+      at-turn .turn .ensures .1,
+    )
 
 pub walk-jumping-spec : {M : Type 1} → statement M
 walk-jumping-spec =

@@ -21,10 +21,10 @@ shl-all : tie.Need-shl-all
 shl-all c = search needs
 
 sub-all : tie.Need-sub-all
-sub-all c = mask-positive _ (c .before .before .before .before .pre .0 .few)
+sub-all c = mask-positive _ (c .before .before .before .before .pre .0 .0 .few)
 
 cast-all-2 : tie.Need-cast-all-2
-cast-all-2 c = record { fits = mask-fits _ (c .before .before .before .before .pre .0 .few) }
+cast-all-2 c = record { fits = mask-fits _ (c .before .before .before .before .pre .0 .0 .few) }
 
 cast-picked : tie.Need-cast-picked
 cast-picked c = search needs
@@ -33,7 +33,7 @@ shr-picked : tie.Need-shr-picked
 shr-picked c = search needs
 
 returns-2 : tie.Need-returns-2
-returns-2 c = advances _ _ _ _ _ _ (c .before .taken .ensures) (c .before .before .before .before .before .pre .0 .few) (c .before .before .if1 .left)
+returns-2 c = advances _ _ _ _ _ _ (c .before .taken .ensures) (c .before .before .before .before .before .pre .0 .0 .few) (c .before .before .if1 .left)
 
 pub advance-spec : {M : Type 1} → statement M
 advance-spec =

@@ -27,24 +27,24 @@ use Rattle.scan.proofs.skip_blanks.Reads as skip-blanks-reads
 use Rattle.plain.proofs.+walk_items+walk_value.{statement}
 use Rattle.plain.proofs.+walk_items+walk_value.Tie.{close}
 
--- the measures: twice the levels left, the sixth argument, and one more for items
-abbrev items-levels : Measures 4 walk-items-kinds.ps ℕ
-items-levels κs a = a .1 .1 .1 .1 .1 .0 * 2 + 1
+-- the measures: twice the levels left, the eighth argument, and one more for items
+abbrev items-levels : Measures 6 walk-items-kinds.ps ℕ
+items-levels κs a = a .1 .1 .1 .1 .1 .1 .1 .0 * 2 + 1
 
-abbrev value-levels : Measures 4 walk-value-kinds.ps ℕ
-value-levels κs a = a .1 .1 .1 .1 .1 .0 * 2
+abbrev value-levels : Measures 6 walk-value-kinds.ps ℕ
+value-levels κs a = a .1 .1 .1 .1 .1 .1 .1 .0 * 2
 
-abbrev items-at : ℕ → In 4 walk-items-kinds.ps
-items-at t = and 4 walk-items-kinds.ps (is 4 walk-items-kinds.ps items-levels t) walk-items.Pre
+abbrev items-at : ℕ → In 6 walk-items-kinds.ps
+items-at t = and 6 walk-items-kinds.ps (is 6 walk-items-kinds.ps items-levels t) walk-items.Pre
 
-abbrev items-below : ℕ → In 4 walk-items-kinds.ps
-items-below t = and 4 walk-items-kinds.ps (falls 4 walk-items-kinds.ps _<_ items-levels t) walk-items.Pre
+abbrev items-below : ℕ → In 6 walk-items-kinds.ps
+items-below t = and 6 walk-items-kinds.ps (falls 6 walk-items-kinds.ps _<_ items-levels t) walk-items.Pre
 
-abbrev value-at : ℕ → In 4 walk-value-kinds.ps
-value-at t = and 4 walk-value-kinds.ps (is 4 walk-value-kinds.ps value-levels t) walk-value.Pre
+abbrev value-at : ℕ → In 6 walk-value-kinds.ps
+value-at t = and 6 walk-value-kinds.ps (is 6 walk-value-kinds.ps value-levels t) walk-value.Pre
 
-abbrev value-below : ℕ → In 4 walk-value-kinds.ps
-value-below t = and 4 walk-value-kinds.ps (falls 4 walk-value-kinds.ps _<_ value-levels t) walk-value.Pre
+abbrev value-below : ℕ → In 6 walk-value-kinds.ps
+value-below t = and 6 walk-value-kinds.ps (falls 6 walk-value-kinds.ps _<_ value-levels t) walk-value.Pre
 
 -- what the functions that are called ask and promise
 abbrev items-claims : ℕ → walk-items-lts.Claims
@@ -76,11 +76,11 @@ value-claims t = (
 )
 
 abbrev items-inv : walk-items-lts.InvT-loop
-items-inv classes query steps «record» at left object node list₀ first i₀ sum₀ list i sum =
+items-inv classes query steps starts ends «record» at left object node list₀ first i₀ sum₀ list i sum =
     (length list ≡ length list₀) × AtItem query steps «record» at left object (stateOf node) (tallyOf list₀ sum₀) i (tallyOf list sum)
 
 abbrev items-measure : walk-items-lts.MeasureT-loop
-items-measure classes query steps «record» at left object node list₀ first i₀ sum₀ list i sum = length «record» - i
+items-measure classes query steps starts ends «record» at left object node list₀ first i₀ sum₀ list i sum = length «record» - i
 
 -- the items of a container, where the measure is t
 module _ (t : ℕ) where
