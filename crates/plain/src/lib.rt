@@ -103,8 +103,6 @@ fn walk_value(
     classes: &[u8; 256],
     query: &[u8],
     steps: Compiled,
-    starts: &[u16; 16],
-    ends: &[u16; 16],
     record: &[u8],
     at: usize,
     left: usize,
@@ -113,7 +111,7 @@ fn walk_value(
     counts: Counts,
 ) -> Walked
     requires { ⌜ ClassTable (now classes) ⌝ }
-    requires { ⌜ Fits (now query) steps × Bounds steps (now starts) (now ends) ⌝ }
+    requires { ⌜ Fits (now query) steps ⌝ }
     requires { ⌜ (length (now «record») ≤ maxBytes) × (at ≤ length (now «record»)) × (node .frames + left ≤ maxDepth) ⌝ }
     ensures { λ r. ⌜ WalksValue (now (query .entry)) steps (now («record» .entry)) at left (stateOf node) (tallyOf (now (list .entry)) counts) (tallyOf (now (list .exit)) (r .counts)) (r .end) ⌝ }
 {
@@ -144,8 +142,6 @@ fn walk_value(
         classes,
         query,
         steps,
-        starts,
-        ends,
         record,
         at + 1,
         left - 1,
@@ -164,8 +160,6 @@ fn walk_items(
     classes: &[u8; 256],
     query: &[u8],
     steps: Compiled,
-    starts: &[u16; 16],
-    ends: &[u16; 16],
     record: &[u8],
     at: usize,
     left: usize,
@@ -175,7 +169,7 @@ fn walk_items(
     counts: Counts,
 ) -> Walked
     requires { ⌜ ClassTable (now classes) ⌝ }
-    requires { ⌜ Fits (now query) steps × Bounds steps (now starts) (now ends) ⌝ }
+    requires { ⌜ Fits (now query) steps ⌝ }
     requires { ⌜ (length (now «record») ≤ maxBytes) × (at ≤ length (now «record»)) × (node .frames + left < maxDepth) ⌝ }
     ensures { λ r. ⌜ WalksItems (now (query .entry)) steps (now («record» .entry)) at left object (stateOf node) (tallyOf (now (list .entry)) counts) (tallyOf (now (list .exit)) (r .counts)) (r .end) ⌝ }
 {
@@ -187,17 +181,17 @@ fn walk_items(
         let end = first + 1;
         return Walked { end, counts };
     }
+    let starts = steps.starts;
+    let ends = steps.ends;
     let mut i = first;
     let mut sum = counts;
     loop {
-        let child = enter_child(query, steps, starts, ends, record, i, object, node);
+        let child = enter_child(query, steps, &starts, &ends, record, i, object, node);
         let below = child.state;
         let walked = walk_value(
             classes,
             query,
             steps,
-            starts,
-            ends,
             record,
             child.at,
             left,
@@ -227,8 +221,6 @@ pub fn walk_plain(query: &[u8], steps: Compiled, record: &[u8], list: &mut [u32]
     ensures { λ r. ⌜ Walks (now (query .entry)) steps (now («record» .entry)) (now (list .entry)) (now (list .exit)) (r .used) (r .peak) (r .stop) ⌝ }
 {
     let classes = encoding::classes();
-    let starts = steps.starts;
-    let ends = steps.ends;
     let at = scan::skip_blanks(record, 0);
     let node = root_state(steps.count);
     let none = Counts {
@@ -240,8 +232,6 @@ pub fn walk_plain(query: &[u8], steps: Compiled, record: &[u8], list: &mut [u32]
         &classes,
         query,
         steps,
-        &starts,
-        &ends,
         record,
         at,
         MAX_DEPTH,

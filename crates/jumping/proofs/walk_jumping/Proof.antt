@@ -63,8 +63,7 @@ loop-less c = c .before .before .before .turn .ensures .0 .fewer
 loop-again : tie.Need-loop-again Inv-loop μ-loop
 loop-again c =
     let at-turn = c .before .before .before in
-    let at-loop = at-turn .before .before .before .before .before .before .before .before .before .before in
-    (
+    let at-loop = at-turn .before .before .before .before .before .before .before .before .before .before in (
       running-on (at-loop .loop .inv .0) (at-turn .turn .ensures .0) (at-turn .turn .kept .1 .1 .1 .1 .1 .1 .1 .0) (c .if1 .left),
       at-turn .turn .ensures .1,
     )
