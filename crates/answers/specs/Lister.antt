@@ -1,10 +1,8 @@
 -- What a lister answers, and what its list holds afterwards (document 01, "Grounds for refusing"), as functions of its three arguments.
 use mathlib.Core.Path.{_≡_}
 use mathlib.Core.List.{List, [], _∷_, _++_}
-use mathlib.Core.Bool.{Bool, true, false}
 use mathlib.Core.Option.{Option, some, none}
 use Prim.Native.Nat.{ℕ, zero, suc, _*_, _/_}
-use lib.Dec.{leb}
 use lib.ListN.{length, take, drop}
 use Rattle.encoding.specs.Verdict.{Verdict, taken, refused}
 use Rattle.json.specs.Grammar.{Tree}

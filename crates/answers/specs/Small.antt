@@ -1,16 +1,14 @@
 -- The place of a refusal lies in the text or at its limit. Assumes nothing.
 use mathlib.Core.Path.{_≡_, refl, sym, ap, _∙_}
 use mathlib.Core.List.{List, [], _∷_, _++_}
-use Prim.Native.Nat.{ℕ, suc, _+_, _≤_, _<_}
+use Prim.Native.Nat.{ℕ, suc, _+_, _≤_}
 use native.Mathlib.Omega.{arith}
 use lib.ListN.{length, take}
 use lib.Seq.{take-all}
-use Rattle.encoding.specs.Prefix.{Alive}
 use Rattle.encoding.specs.Verdict.{Verdict}
-use Rattle.json.specs.Grammar.{Nested}
 use Rattle.json.specs.Verdict as J
 use Rattle.json.specs.Verdict.{maxDepth, maxBytes, recordVerdict, OpensBeyond, RecordSays, recordSays}
-use Rattle.query.specs.Append.{append-query, append-spaced, length-blanks, size}
+use Rattle.query.specs.Append.{append-query, length-blanks, size}
 use Rattle.query.specs.Grammar.{Query, Spaced, putQuery, putSpaced, putSegment, text}
 use Rattle.query.specs.Says.{querySays}
 use Rattle.query.specs.Verdict as Q

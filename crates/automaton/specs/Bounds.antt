@@ -1,8 +1,7 @@
 -- The numbers of an answer are at most the record's bytes: first bytes strictly rise, and each label on a way takes a byte. Assumes nothing.
-use mathlib.Core.Path.{_≡_, refl, sym, ap, _∙_}
-use mathlib.Core.List.{List, [], _∷_, map}
+use mathlib.Core.List.{List, [], _∷_}
 use mathlib.Core.Bool.{Bool, true, false}
-use Prim.Native.Nat.{ℕ, zero, suc, _+_, _≤_, _<_}
+use Prim.Native.Nat.{ℕ, zero, suc, _+_, _≤_}
 use native.Mathlib.Omega.{arith}
 use lib.ListN.{length, drop, length-map}
 use Rattle.json.specs.Append.{length-text}
@@ -11,11 +10,11 @@ use Rattle.query.specs.Steps.{Step}
 use Rattle.select.specs.Nodes.{Node, size, endOf, root}
 use Rattle.select.specs.Order.{Rises, child-within, first-before-end}
 use Rattle.select.specs.PeakIs.{most-bound}
-use Rattle.select.specs.Reach.{Reach, ReachFrom, start, down, nodes-are}
+use Rattle.select.specs.Reach.{Reach, start, down, nodes-are}
 use Rattle.select.specs.SpansAre.{firstBytes, spans-rise}
-use Rattle.select.specs.Visits.{Visit, Way, nodes}
+use Rattle.select.specs.Visits.{Way, nodes}
 use Rattle.automaton.specs.TallyIs.{stopAt}
-use Rattle.select.specs.Ways.{Span, sameMarks, frameIf, frames, mostFrames, spans, peak}
+use Rattle.select.specs.Ways.{Span, sameMarks, frameIf, frames, spans, peak}
 
 rises-few : (a e : ℕ) (xs : List ℕ) → Rises a xs e → a + length xs ≤ e
 rises-few a e [] r = omega arith

@@ -1,21 +1,19 @@
 -- A container without marks is dead: no node below it is picked out or costs a frame, so visiting its items changes nothing.
 -- Without marks a child has none either, and its frames are its parent's. Assumes nothing.
-use mathlib.Core.Path.{_≡_, refl, sym, ap, ap₂, _∙_}
-use mathlib.Core.List.{List, [], _∷_, _++_}
-use mathlib.Core.Bool.{Bool, true, false, _&&_, _||_, and-false}
-use Prim.Native.Nat.{ℕ, zero, suc, _+_, _≤_, max}
+use mathlib.Core.Path.{_≡_, refl, ap, ap₂, _∙_}
+use mathlib.Core.List.{List}
+use mathlib.Core.Bool.{Bool, false, _&&_, _||_, and-false}
+use Prim.Native.Nat.{ℕ, zero, suc, _+_, _≤_}
 use native.Mathlib.Nat.{max-eq-left}
 use native.Mathlib.Omega.{arith}
-use lib.Dec.{eqb}
 use lib.ListN.{length, getElem?}
 use Rattle.bits.specs.Bits as B
-use Rattle.bits.specs.Bits.{bit}
-use Rattle.bits.specs.Laws.{bit-zero, number-same}
+use Rattle.bits.specs.Laws.{bit-zero}
 use Rattle.json.specs.Grammar.{Kind, Value, literal, number, string, container, Items, empty, items, More, end, more}
 use Rattle.query.specs.Steps.{Step}
 use Rattle.select.specs.Nodes.{Label, Node, size, keySize, labelOf}
 use Rattle.select.specs.MarksStep.{stepHits}
-use Rattle.select.specs.Visits.{Visit, visit, visits, itemsVisits, moreVisits}
+use Rattle.select.specs.Visits.{visit, visits, itemsVisits, moreVisits}
 use Rattle.select.specs.Ways.{isDeep, frameIf, containerFrames}
 use Rattle.automaton.specs.State.{State, nextMark, nextMarks, pickAt, nextPicked, next}
 use Rattle.automaton.specs.Tally.{Tally, listIfPicked, listFrom, listed, raiseFrom, raised, put, tallied}

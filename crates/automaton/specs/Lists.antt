@@ -1,15 +1,15 @@
 -- From verdicts and a tally to what a lister promises. Assumes nothing.
 use mathlib.Core.Path.{_≡_, refl, sym, ap, ap₂, _∙_}
 use mathlib.Core.List.{List, [], _∷_, _++_}
-use mathlib.Core.Option.{Option, some, none}
-use Prim.Native.Nat.{ℕ, zero, suc, _+_, _*_, _≤_, _<_}
+use mathlib.Core.Option.{Option}
+use Prim.Native.Nat.{ℕ, zero, suc, _+_, _*_}
 use native.Mathlib.Omega.{arith}
 use lib.ListN.{length, take, drop}
 use Rattle.encoding.specs.Verdict.{Verdict}
 use Rattle.encoding.specs.Verdict as verdict
-use Rattle.json.specs.Grammar.{Tree, text, nesting}
+use Rattle.json.specs.Grammar.{Tree}
 use Rattle.json.specs.Verdict as J
-use Rattle.json.specs.Verdict.{maxDepth, maxBytes, recordVerdict, RecordSays, recordSays}
+use Rattle.json.specs.Verdict.{recordVerdict, RecordSays, recordSays}
 use Rattle.query.specs.Verdict.{queryVerdict, stepsIn}
 use Rattle.select.specs.Ways.{Span, spans, peak}
 use Rattle.answers.specs.Lister.{orElse, inputVerdict, spansOf, spansIn, peakOf, peakIn, pairsOf, leftOver, listVerdict}

@@ -2,10 +2,9 @@
 use mathlib.Core.Path.{_≡_, refl, sym, ap, ap₂, _∙_}
 use mathlib.Core.List.{List, [], _∷_, map}
 use mathlib.Core.Bool.{Bool, true, false, _&&_, _||_, false≢true}
-use mathlib.Core.Option.{Option, some, none}
-use Prim.Native.Nat.{ℕ, zero, suc, _≤_, _<_}
+use Prim.Native.Nat.{ℕ, zero, suc, _<_}
 use native.Mathlib.Omega.{arith}
-use borrow.Author.Tests.{lt-ltb, le-ltb, eq-eqb, ne-eqb}
+use borrow.Author.Tests.{lt-ltb, eq-eqb, ne-eqb}
 use lib.Dec.{eqb, eqb·suc-zero}
 use lib.ListN.{length, getElem?}
 use Rattle.bits.specs.Bits.{bit, number}
@@ -15,9 +14,9 @@ use Rattle.json.specs.Grammar.{Tree}
 use Rattle.select.specs.Nodes.{Label, root}
 use Rattle.select.specs.MarksStep.{stepHits, mark-root, mark-root-suc, mark-zero, mark-suc, picks-step, picks-root}
 use Rattle.select.specs.MarksAre.{first-marks}
-use Rattle.select.specs.Visits.{Visit, Way, step, nodeVisits, nodes}
+use Rattle.select.specs.Visits.{Way, step, nodeVisits, nodes}
 use Rattle.select.specs.VisitsMap.{over, visits-map}
-use Rattle.select.specs.Ways.{isDeep, mark, picksBack, picks, sameMarks, frameIf, frames}
+use Rattle.select.specs.Ways.{isDeep, mark, picksBack, picks, sameMarks, frames}
 use Rattle.automaton.specs.State.{State, nextMark, nextMarks, pickAt, nextPicked, next, stateAt, start}
 
 no-steps : (q : List Step) → length q ≡ 0 → q ≡ []

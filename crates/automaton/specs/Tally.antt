@@ -1,10 +1,9 @@
 -- What a walk tallies as it visits nodes: the lent list, the pairs used in it, the most frames, and where it had no pair left.
-use mathlib.Core.List.{List, [], _∷_, _++_}
+use mathlib.Core.List.{List, [], _∷_}
 use mathlib.Core.Bool.{Bool, true, false}
 use Prim.Native.Nat.{ℕ, zero, suc, _+_, _*_, max}
 use lib.Dec.{ltb}
 use lib.ListN.{set}
-use Rattle.json.specs.Grammar.{Value}
 use Rattle.select.specs.Nodes.{Node, endOf}
 use Rattle.select.specs.Visits.{Visit}
 use Rattle.select.specs.Ways.{containerFrames}

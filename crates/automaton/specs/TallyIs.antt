@@ -3,17 +3,16 @@
 use mathlib.Core.Path.{_≡_, refl, sym, ap, _∙_}
 use mathlib.Core.List.{List, [], _∷_, _++_, map}
 use mathlib.Core.Bool.{Bool, true, false}
-use Prim.Native.Nat.{ℕ, zero, suc, _+_, _-_, _*_, _/_, _≤_, _<_, max, min}
+use Prim.Native.Nat.{ℕ, zero, suc, _+_, _-_, _*_, _/_, _≤_, max}
 use native.Mathlib.Nat.{zero-max, min-le-left, le-max-left, le-max-right, max-le, le-antisymm, le-trans, max-zero}
 use native.Mathlib.Numerals.{add-one}
 use native.Mathlib.Omega.{arith}
 use borrow.Author.Tests.{lt-ltb, le-ltb}
-use lib.Dec.{ltb}
 use lib.ListN.{length, set, take, drop, length-set, length-take}
 use lib.Seq.{sets, sets-eq}
 use Rattle.query.specs.Steps.{Step}
 use Rattle.json.specs.Grammar.{Tree}
-use Rattle.select.specs.Nodes.{Node, endOf, root}
+use Rattle.select.specs.Nodes.{endOf, root}
 use Rattle.select.specs.Visits.{Visit, Way, nodeVisits, nodes}
 use Rattle.select.specs.VisitsMap.{over}
 use Rattle.select.specs.Ways.{Span, spanOf, spanIf, picks, pickedSpans, frames, containerFrames, mostFrames, spans, peak}

@@ -3,8 +3,6 @@ use mathlib.Core.Path.{_≡_}
 use mathlib.Core.Bool.{Bool}
 use mathlib.Core.List.{List}
 use Prim.Native.Nat.{ℕ}
-use lib.Count.{ones}
-use Rattle.blocks.specs.declared.Counted.{Counted}
 use Rattle.blocks.specs.declared.Words.{Words}
 use Rattle.blocks.specs.Words.{quotesWord, stringsWord, openingWord, closingWord, insideAfter, oddAfter}
 
@@ -16,12 +14,3 @@ pub record Sorted (s : List ℕ) (inside odd : Bool) (w : Words) : Type 0 where
   pub closing-are : w .closing ≡ closingWord inside odd s
   pub inside-is : w .inside ≡ insideAfter inside odd s
   pub odd-is : w .odd ≡ oddAfter odd s
-
--- w with how many opening and closing brackets it has
-abbrev pub countedOf : Words → Counted
-countedOf w = record { words = w; opened = ones (w .opening); closed = ones (w .closing) }
-
--- the same of the block at the front of s
-pub record SortedCounted (s : List ℕ) (inside odd : Bool) (r : Counted) : Type 0 where
-  pub sorted : Sorted s inside odd (r .words)
-  pub counted : r ≡ countedOf (r .words)

@@ -8,7 +8,8 @@ ghost use lib.ListN.{length};
 ghost use Rattle.bits.specs.Bits.{bit};
 ghost use Rattle.blocks.specs.Parts.{oddRun, parity, Swapped, spaced, PackedClasses, Unpacked, Classified, Marked, Padded};
 ghost use Rattle.blocks.specs.Words.{oddBefore};
-ghost use Rattle.blocks.specs.Sorted.{Sorted, countedOf, SortedCounted};
+ghost use Rattle.blocks.specs.Sorted.{Sorted};
+ghost use Rattle.blocks.specs.Counts.{countedOf, SortedCounted};
 
 // Words one to four of a block, and the facts that hold after it.
 #[repr(C)]

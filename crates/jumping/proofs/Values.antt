@@ -28,7 +28,7 @@ use Rattle.pairs.specs.Pairs.{tally, Begins, Raises}
 use Rattle.walk.specs.Ahead.{ItemsAhead}
 use Rattle.walk.specs.AheadLaws.{items-inside, no-items, first-item}
 use Rattle.walk.specs.ValueLaws.{scalar-passed, container-entered}
-use Rattle.jumping.specs.Pile.{Pile, pile, kept, Open, kindAt, Passed, ItemDue, ValueDue, ContainerDue}
+use Rattle.jumping.specs.Pile.{Pile, kept, Open, kindAt, Passed, ItemDue, ValueDue, ContainerDue}
 use Rattle.jumping.specs.Turns.{tallyOf, Due, Onward, Lost, PassedTo, EnteredAt, Skipped, PassesContainer}
 use Rattle.jumping.specs.declared.pile.Coming.{Coming}
 use Rattle.jumping.specs.declared.pile.Standing.{Standing}

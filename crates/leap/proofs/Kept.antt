@@ -13,13 +13,13 @@ use lib.Seq.{drop-drop, getD-set-same, getD-set-other}
 use borrow.Author.Tests.{eqb-true}
 use Rattle.bits.specs.Bits.{bit}
 use Rattle.bits.specs.Laws.{lt-or-ge, bit-shr}
-use Rattle.blocks.specs.Words.{byteAt, isBackslash, oddBefore, oddQuotes, inString, opensAt, closesAt, openingWord, closingWord}
+use Rattle.blocks.specs.Words.{byteAt, isBackslash, oddBefore, inString, opensAt, closesAt, openingWord, closingWord}
 use Rattle.blocks.specs.Laws.{Carried, opening-past, closing-past, size-le, opens-drop, closes-drop}
 use Rattle.blocks.specs.Sorted.{Sorted}
 use Rattle.blocks.specs.declared.Words.{Words}
 use Rattle.leap.specs.Brackets.{depthAt, depthIn, Closed}
 use Rattle.leap.specs.BracketLaws.{depth-calm, depth-same, closed-at, closed-once}
-use Rattle.leap.specs.Passing.{Finds, Leads, KeptBlock, Kept, Near}
+use Rattle.leap.specs.Passing.{Finds, KeptBlock, Kept, Near}
 use Rattle.leap.proofs.Ways.{no-bracket-past, block-opens, block-closes}
 
 -- ---- just behind an opening bracket

@@ -15,7 +15,8 @@ use Rattle.bits.specs.Bits.{bit}
 use Rattle.bits.specs.Laws.{lt-or-ge}
 use Rattle.blocks.specs.Words.{byteAt, oddBefore, oddQuotes, inString, opensAt, closesAt, blockSize, openingWord, closingWord}
 use Rattle.blocks.specs.Laws.{Carried, size-full, size-short, inside-full, odd-full, opening-bit, closing-bit, opening-past, closing-past, odd-drop, quotes-drop}
-use Rattle.blocks.specs.Sorted.{Sorted, countedOf, SortedCounted}
+use Rattle.blocks.specs.Counts.{countedOf, SortedCounted}
+use Rattle.blocks.specs.Sorted.{Sorted}
 use Rattle.blocks.specs.declared.Counted.{Counted}
 use Rattle.blocks.specs.declared.Words.{Words}
 use Rattle.json.specs.Grammar.{putItems}

@@ -10,7 +10,7 @@ ghost use mathlib.Core.List.{List};
 ghost use mathlib.Core.Bool.{true};
 ghost use Prim.Native.Nat.{ℕ, _≤_, _<_};
 ghost use Rattle.bits.specs.Bits.{bit};
-ghost use Rattle.blocks.specs.Sorted.{countedOf, SortedCounted};
+ghost use Rattle.blocks.specs.Counts.{countedOf, SortedCounted};
 ghost use Rattle.leap.specs.Brackets.{afterPlace, Leaves};
 ghost use Rattle.leap.specs.Passing.{Cleared, Apart, Finds, Leads, Kept, Near};
 

@@ -3,7 +3,6 @@ use mathlib.Core.Path.{_≡_, refl, sym, ap, _∙_}
 use mathlib.Core.Bool.{Bool, true, false}
 use mathlib.Core.List.{List}
 use Prim.Native.Nat.{ℕ, zero, suc, _+_, _-_, _*_, _/_, _≤_, _<_, max}
-use native.Mathlib.Nat.{max-eq-left, max-eq-right}
 use native.Mathlib.Numerals.{add-one}
 use native.Mathlib.Omega.{arith}
 use borrow.Author.Tests.{lt-ltb, le-ltb}
@@ -11,7 +10,7 @@ use lib.Dec.{ltb}
 use lib.ListN.{length, set}
 use lib.Seq.{set-out}
 use Rattle.answers.specs.Lister.{pairsOf}
-use Rattle.automaton.specs.Tally.{Tally, raiseFrom, raised}
+use Rattle.automaton.specs.Tally.{raiseFrom, raised}
 use Rattle.automaton.specs.Halves.{beginIfRoom, beginIfPicked, beginFrom, begin, waitingIfRoom, waitingIfPicked, waitingFrom, waiting, endPair}
 use Rattle.pairs.specs.Pairs.{tally, Begins, Raises}
 

@@ -16,7 +16,7 @@ use Rattle.encoding.specs.Utf8At.{reads-at, scanned-within, scanned-moved}
 use Rattle.query.specs.Grammar as G
 use Rattle.query.specs.Grammar.{Depth, Quote, quoteByte}
 use Rattle.query.specs.Machine as M
-use Rattle.query.specs.Machine.{Control, done, inside, short, quoted, dead, Row, only, range, firstRows, beginRows, dotRow, rows, pick, step}
+use Rattle.query.specs.Machine.{Control, done, inside, short, quoted, dead, Row, only, range, firstRows, beginRows, dotRow, pick, step}
 use Rattle.query.specs.Read.{letter, event, reading}
 use Rattle.query.specs.Spell.{spell, alike}
 use Rattle.query.specs.Rows.{miss, landing, leads, allParted, passes}

@@ -2,8 +2,7 @@
 use mathlib.Core.Path.{_≡_}
 use mathlib.Core.List.{List, [], _∷_}
 use mathlib.Core.Bool.{Bool, true, false}
-use Prim.Native.Nat.{ℕ, _≤_}
-use lib.ListN.{length}
+use Prim.Native.Nat.{ℕ}
 use Rattle.encoding.specs.Bytes.{In, Blanks, putBlanks}
 use Rattle.encoding.specs.Utf8.{Wide, putWide}
 use Rattle.query.specs.Steps.{Selector, Step}

@@ -1,9 +1,8 @@
 -- The nodes of a record (RFC 9535 §1.1): its values, where they stand, and how one is reached from another.
-use mathlib.Core.Path.{_≡_}
 use mathlib.Core.List.{List, [], _∷_, List·Memᴰ}
 use Prim.Native.Nat.{ℕ, _+_}
 use lib.ListN.{length}
-use Rattle.json.specs.Grammar.{Char, putChars, Kind, array, object, Key, putKey, Value, literal, number}
+use Rattle.json.specs.Grammar.{putChars, Kind, array, object, Key, putKey, Value, literal, number}
 use Rattle.json.specs.Grammar.{string, container, Items, empty, items, More, end, more, putValue, Tree}
 
 -- how a node hangs below its parent: by a name, as its bytes stand between the quotes, or by its position in an array, from 0

@@ -78,14 +78,6 @@ module _ {b : ℕ} where
       go (inl p) = never (sym (plain-holds p) ∙ e)
       go (inr n) = n
 
-  pub unquoted-holds : (b ≡ 0x22 → ⊥) → unquoted b ≡ true
-  unfolding unquoted
-  unquoted-holds q = rw (ne-eqb b 0x22 q)
-
-  pub unquoted-fails : b ≡ 0x22 → unquoted b ≡ false
-  unfolding unquoted
-  unquoted-fails e = rw e
-
   pub blank-holds : (w : Blank) → b ≡ blankByte w → blank b ≡ true
   unfolding blank
   blank-holds w e = eq-eqb (classOf b) 7 (Class.blank-class b .1 (w, e))

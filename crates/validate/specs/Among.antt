@@ -1,17 +1,16 @@
 -- A byte that is among some bytes, or is not, and what that says of a machine that has one rule for each of them.
-use mathlib.Core.Path.{_≡_, refl, sym, _∙_}
+use mathlib.Core.Path.{_≡_}
 use mathlib.Core.List.{List, [], _∷_}
 use mathlib.Core.Bool.{Bool, true, false, _&&_}
 use mathlib.Core.Option.{Option, some, none}
-use Prim.Native.Nat.{ℕ, _+_, _≤_, _<_}
+use Prim.Native.Nat.{ℕ, _≤_, _<_}
 use native.Mathlib.Omega.{arith}
 use lib.Dec.{T, leb, leb→le}
 use lib.ListN.{length, getD}
 use Rattle.bits.specs.Truth.{and-left, and-right}
-use Rattle.json.specs.Room.{Room, endless}
+use Rattle.json.specs.Room.{Room}
 use Rattle.json.specs.Machine.{Ctl, Stack, top, at, Rule, one, lowest, highest, rules, step}
-use Rattle.json.specs.Steps.{Picks, inside, past, nowhere, picked, step-by}
-use Rattle.json.specs.Led.{Led, led-go, led-die, led-end}
+use Rattle.json.specs.Steps.{Picks, inside, past, nowhere, step-by}
 
 -- what is refused is not taken
 pub never : {A : Type 0} → false ≡ true → A

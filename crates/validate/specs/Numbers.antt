@@ -1,5 +1,5 @@
 -- Numbers (RFC 8259 §6) as the record grammar's machine takes them.
-use mathlib.Core.Path.{_≡_, refl, ap, sym, _∙_}
+use mathlib.Core.Path.{_≡_, refl, sym, _∙_}
 use mathlib.Core.List.{List, [], _∷_, _++_, append-assoc}
 use mathlib.Core.Bool.{Bool, true, false, not}
 use mathlib.Core.Logic.{_⊎_, inl, inr}
@@ -14,9 +14,9 @@ use Rattle.encoding.specs.BytesLaws as BytesLaws
 use Rattle.swar.specs.Kinds.{digit}
 use Rattle.swar.specs.Run.{Passed, Run}
 use Rattle.swar.specs.Passing.{one-more}
-use Rattle.json.specs.Grammar.{Kind, array}
+use Rattle.json.specs.Grammar.{Kind}
 use Rattle.json.specs.Room.{Room, endless}
-use Rattle.json.specs.Machine.{Ctl, item, after, afterMinus, afterZero, inInt, afterPoint, inFrac, afterE, afterSign, inExp, Stack, top, at, dead, Rule, one, span, exponentRules, afterRules, rules, step, final}
+use Rattle.json.specs.Machine.{Ctl, after, afterMinus, afterZero, inInt, afterPoint, inFrac, afterE, afterSign, inExp, Stack, top, at, dead, Rule, one, span, afterRules, rules, step, final}
 use Rattle.json.specs.Steps.{Picks, inside, past, nowhere, landing, step-range, step-by, step-over}
 use Rattle.validate.specs.Among.{never, Among, this, other, no-more, AmongAt, byte, nothing, missed, each, among-picks, among-past, among-within}
 use Rattle.json.specs.Led.{Led, led-here, led-go, led-die, led-end, led-over, led-same, led-skip, led-on}

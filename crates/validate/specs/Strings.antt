@@ -1,15 +1,15 @@
 -- Strings (RFC 8259 §7) as the record grammar's machine takes them.
-use mathlib.Core.Path.{_≡_, refl, ap, sym, _∙_}
+use mathlib.Core.Path.{_≡_, refl}
 use mathlib.Core.List.{List, [], _∷_}
 use mathlib.Core.Bool.{Bool, true, false}
-use mathlib.Core.Option.{Option, some, none}
+use mathlib.Core.Option.{some, none}
 use Prim.Native.Nat.{ℕ, zero, suc, _+_, _-_, _≤_, _<_}
 use native.Mathlib.Omega.{arith}
 use lib.ListN.{length, getD}
 use Rattle.swar.specs.Kinds.{plain}
 use Rattle.swar.specs.KindLaws as Kinds
 use Rattle.swar.specs.KindLaws.{Plain, NotPlain, is-plain}
-use Rattle.swar.specs.Run.{Passed, Run}
+use Rattle.swar.specs.Run.{Passed}
 use Rattle.encoding.specs.Utf8Steps as U
 use Rattle.encoding.specs.Utf8Steps.{Due, First, Next, lowest, highest}
 use Rattle.encoding.specs.Utf8At as A
@@ -17,8 +17,8 @@ use Rattle.encoding.specs.Utf8At.{RestAt, ReadsAt, reads-at, scanned-within}
 use Rattle.encoding.specs.WideRun as W
 use Rattle.encoding.specs.WideRun.{WideAt, WideRun, run-moved}
 use Rattle.json.specs.Room.{Room, endless}
-use Rattle.json.specs.Machine.{Ctl, inString, escaping, hexDue, tailDue, anyTail, afterE0, afterED, afterF0, afterF4, closed, Stack, State, at, dead, Rule, one, span, hexRules, rules, step, final}
-use Rattle.json.specs.Steps.{Picks, inside, past, nowhere, landing, step-range, step-by}
+use Rattle.json.specs.Machine.{Ctl, inString, escaping, hexDue, tailDue, anyTail, afterE0, afterED, afterF0, afterF4, closed, Stack, State, at, dead, one, span, hexRules, rules, step, final}
+use Rattle.json.specs.Steps.{inside, past, nowhere, landing, step-range, step-by}
 use Rattle.json.specs.Led.{Led, led-here, led-go, led-die, led-end, led-skip, led-on, led-dead}
 use Rattle.validate.specs.Among.{never, Among, among-step, among-past, topped, over-all}
 

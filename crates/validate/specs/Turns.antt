@@ -9,7 +9,7 @@ use lib.ListN.{length, getD, set, length-set}
 use Rattle.encoding.specs.Verdict.{Verdict, refused}
 use Rattle.swar.specs.Kinds.{blank}
 use Rattle.swar.specs.Run.{Run}
-use Rattle.json.specs.Grammar.{Kind, object, opening, closing}
+use Rattle.json.specs.Grammar.{object, opening, closing}
 use Rattle.json.specs.Room.{left, endless, wider}
 use Rattle.json.specs.Machine.{Ctl, item, after, valueDue, Stack, pop, one, closes}
 use Rattle.json.specs.Steps.{past, nowhere, step-by, item-close, after-comma, after-close}

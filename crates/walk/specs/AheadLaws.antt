@@ -1,17 +1,16 @@
 -- How a walk goes on: from the opening bracket to the first item, into its value, past it, and over a comma or the closing bracket. Assumes nothing.
 use mathlib.Core.Path.{_≡_, refl, sym, ap, ap₂, _∙_}
 use mathlib.Core.List.{List, [], _∷_, _++_}
-use mathlib.Core.Bool.{Bool, true, false, not, false≢true}
-use Prim.Native.Nat.{ℕ, zero, suc, _+_, _≤_, _<_, max}
+use mathlib.Core.Bool.{true, not, false≢true}
+use Prim.Native.Nat.{ℕ, _+_, _≤_, _<_}
 use native.Mathlib.Nat.{le-max-left, le-max-right, le-trans}
 use native.Mathlib.Numerals.{add-one}
 use native.Mathlib.Omega.{arith}
 use borrow.Author.Tests.{eq-eqb}
-use lib.Dec.{eqb}
-use lib.ListN.{length, drop, getD, length-drop}
+use lib.ListN.{length, drop, getD}
 use Rattle.encoding.specs.Bytes.{Blanks, putBlanks}
 use Rattle.encoding.specs.Class.{classOf}
-use Rattle.json.specs.Append.{length-blanks, length-value, length-key, length-more}
+use Rattle.json.specs.Append.{length-blanks, length-value, length-key}
 use Rattle.json.specs.Grammar as G
 use Rattle.json.specs.Grammar.{Kind, Key, Value, Items, More, closing, putKey, putValue, putItems, putMore, nesting, itemsNesting, moreNesting}
 use Rattle.select.specs.Nodes.{Label, size, keySize, labelOf}

@@ -2,28 +2,25 @@
 -- after. Assumes nothing.
 use mathlib.Core.Path.{_≡_, refl, sym, ap, ap₂, _∙_}
 use mathlib.Core.Logic.{⊎-elim}
-use mathlib.Core.List.{List, [], _∷_, _++_}
-use mathlib.Core.Bool.{Bool, true, false, not, false≢true}
-use Prim.Native.Nat.{ℕ, zero, suc, _+_, _-_, _≤_, _<_, max}
+use mathlib.Core.List.{List, [], _∷_}
+use Prim.Native.Nat.{ℕ, zero, suc, _+_, _-_, _≤_, _<_}
 use native.Mathlib.Nat.{max-zero}
 use native.Mathlib.Numerals.{add-one}
 use native.Mathlib.Omega.{arith}
 use lib.Dec.{eqb}
-use lib.ListN.{length, drop, getD}
+use lib.ListN.{drop, getD}
 use Rattle.encoding.specs.Bytes.{In, putIn}
 use Rattle.encoding.specs.BytesLaws.{to-high}
 use Rattle.encoding.specs.Class.{classOf}
 use Rattle.encoding.specs.ClassLaws as C
-use Rattle.json.specs.Append.{length-items}
 use Rattle.json.specs.Grammar as G
 use Rattle.json.specs.Grammar.{Literal, Minus, Int, Char, Kind, Value, Items, opening, nesting, itemsNesting}
 use Rattle.json.specs.Grammar.{putLiteral, putMinus, putInt, putFrac, putExp, putString, putValue, putItems}
-use Rattle.select.specs.Nodes.{Label, Node, size, endOf}
-use Rattle.select.specs.Visits.{Visit, visit, visits, itemsVisits}
+use Rattle.select.specs.Nodes.{Label, size, endOf}
+use Rattle.select.specs.Visits.{visit, visits, itemsVisits}
 use Rattle.select.specs.Ways.{containerFrames}
-use Rattle.scan.specs.Places.{Head, head-of}
+use Rattle.scan.specs.Places.{head-of}
 use Rattle.scan.specs.Scans.{IsScalar, EndsScalar, kindIf}
-use Rattle.scan.specs.Shape.{stopped}
 use Rattle.automaton.specs.State.{State}
 use Rattle.automaton.specs.Tally.{Tally, raiseFrom, raised, tallied}
 use Rattle.automaton.specs.Halves.{begin, waiting, finish, visit-halves}

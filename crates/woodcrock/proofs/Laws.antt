@@ -12,7 +12,7 @@ use Rattle.query.specs.Verdict.{queryVerdict, stepsIn}
 use Rattle.query.specs.Answer.{QueryRead}
 use Rattle.query.specs.declared.Outcome.{Outcome}
 use Rattle.select.specs.Ways.{spans}
-use Rattle.answers.specs.Lister.{pairsOf, Lists}
+use Rattle.answers.specs.Lister.{pairsOf}
 use Rattle.answers.specs.Small.{query-place, record-place}
 use Rattle.answers.specs.Within.{RecordIs}
 use Rattle.automaton.specs.Bounds.{spans-few, peak-few, stop-few}

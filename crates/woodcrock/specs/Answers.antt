@@ -1,5 +1,4 @@
 -- The answers of the public calls as structs: the promises of crate answers, and document 01's numbers for what a walk has counted.
-use mathlib.Core.Path.{_≡_}
 use mathlib.Core.List.{List}
 use Prim.Native.Nat.{ℕ, zero, suc}
 use Rattle.answers.specs.Lister.{Lists}

@@ -2,7 +2,6 @@
 use borrow.Author.Needs.{needs}
 use borrow.Author.Tests.{not-false}
 use mathlib.Core.Path.{refl, sym, _∙_}
-use native.Mathlib.Omega.{arith}
 use Rattle.leap.proofs.Kept.{near-leads}
 use Rattle.leap.proofs.leave_near.Statement.{statement}
 use Rattle.leap.proofs.leave_near.Tie as tie

@@ -1,7 +1,6 @@
 -- `validate::moves::add_move` meets its contract. The loop's invariant: the move has been added to the bytes before `b`. The measure is how
 -- many are left. Assumes nothing.
 use Prim.Native.Nat.{_-_}
-use native.Mathlib.Omega.{arith}
 use Rattle.validate.specs.MoveLaws.{Adding, adding-start, adding-more, adding-done}
 use borrow.Author.Needs.{needs}
 use Rattle.validate.proofs.moves.add_move.Statement.{statement}

@@ -1,11 +1,8 @@
 -- `validate::strings::hex_end` meets its contract. The loop's invariant: the machine has come to where so many digits are due as are left. The
 -- measure is how many are left. Assumes nothing.
 use mathlib.Core.Bool.{Bool, true}
-use Prim.Native.Nat.{_≤_}
-use native.Mathlib.Omega.{arith}
-use lib.ListN.{length}
 use borrow.Author.Tests.{not-true, not-false}
-use Rattle.json.specs.Machine.{hexDue, inString}
+use Rattle.json.specs.Machine.{hexDue}
 use Rattle.json.specs.Led.{Led, led-here}
 use Rattle.validate.specs.Strings.{hexLeft, hex-end, hex-wrong, hex-more, hex-some, hex-done}
 use borrow.Author.Needs.{needs}

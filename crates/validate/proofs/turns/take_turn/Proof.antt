@@ -1,6 +1,5 @@
 -- `validate::turns::take_turn` meets its contract, by what is due and then by the byte. Assumes nothing.
 use mathlib.Core.Path.{_≡_}
-use Prim.Native.Nat.{_<_}
 use native.Mathlib.Omega.{arith}
 use Rattle.validate.specs.Texts.{name-missing}
 use borrow.Author.Needs.{needs}
