@@ -20,7 +20,7 @@ const CHECK: &str = "check";
 pub const PLAIN: &str = "plain";
 const DEEP: &str = "deep";
 const STAR: &str = "everything";
-const DEAD: &str = "mostly dead";
+const DEAD: &str = "dead parts";
 
 const ALL_BELOW: &str = ".. | .[]?";
 

@@ -2,6 +2,7 @@
 //! docs/BENCHMARK.md and docs/benchmark.svg: `bench [--size BYTES] [--rounds N] [--out FOLDER]`.
 
 mod clock;
+mod dead;
 mod engines;
 mod jobs;
 mod page;
@@ -38,15 +39,16 @@ pub struct Measured {
     pub bytes: usize,
     pub nodes: usize,
     pub times: Vec<Result<f64, String>>,
-}
-
-/// The parts of one record's listing.
-pub struct Parts {
-    pub record: &'static str,
     /// The check alone: the record with one byte too many is refused at its last byte.
     pub check: f64,
-    /// The value finder at the root.
-    pub find: f64,
+    /// The share of the record that lies in dead containers.
+    pub dead: f64,
+}
+
+/// The value finder at the root of a record.
+pub struct Found {
+    pub record: &'static str,
+    pub time: f64,
 }
 
 /// All that is written down.
@@ -55,7 +57,7 @@ pub struct Results {
     pub left_out: Vec<(&'static str, String)>,
     pub large: Vec<Measured>,
     pub short: Vec<Measured>,
-    pub parts: Vec<Parts>,
+    pub found: Vec<Found>,
     /// The smallest stack of each call, as the comparison prints it.
     pub stack: String,
     pub rounds: u32,
@@ -129,37 +131,44 @@ fn round(
     Ok(())
 }
 
-/// Measures all jobs, the engines in turn; with a query that asks for the root alone also the parts.
+/// Measures all jobs, the engines and the check in turn; with a query that asks for the root alone also
+/// the value finder.
 fn measure(
     jobs: &'static [Job],
     engines: &[Engine],
     records: &[Record],
     effort: Effort,
     rounds: u32,
-) -> Result<(Vec<Measured>, Vec<Parts>), String> {
-    let (mut all, mut parts) = (Vec::new(), Vec::new());
+) -> Result<(Vec<Measured>, Vec<Found>), String> {
+    let (mut all, mut found) = (Vec::new(), Vec::new());
     for job in jobs {
         let record = records.iter().find(|record| record.name == job.record);
         let record = record.expect("each job names a record");
         let times = engines.iter().map(|_| Ok(f64::INFINITY)).collect();
-        let mut measured = Measured { job, bytes: record.bytes.len(), nodes: 0, times };
-        let mut list = vec![0; record.bytes.len() + 1];
+        let (bytes, check) = (record.bytes.len(), f64::INFINITY);
+        let dead = dead::share(job.query().as_bytes(), &record.bytes)?;
+        let mut measured = Measured { job, bytes, nodes: 0, times, check, dead };
+        let mut list = vec![0; bytes + 1];
         let longer = refused_at_its_end(record)?;
-        let mut of_record =
-            Parts { record: record.name, check: f64::INFINITY, find: f64::INFINITY };
+        let mut root = Found { record: record.name, time: f64::INFINITY };
         for number in 0..rounds {
             round(number, &mut measured, engines, record, effort, &mut list)?;
+            measured.check = measured.check.min(clock::best(effort, || {
+                let _ = black_box(Walk::Jumping.list_into(b"$", &longer, &mut []));
+            }));
             if job.steps.is_empty() {
-                parts_round(&mut of_record, &record.bytes, &longer);
+                root.time = root.time.min(clock::best(effort, || {
+                    let _ = black_box(find_value(&record.bytes, 0));
+                }));
             }
         }
         if job.steps.is_empty() {
-            parts.push(of_record);
+            found.push(root);
         }
         eprintln!("{} {}: {} nodes", job.record, job.query(), measured.nodes);
         all.push(measured);
     }
-    Ok((all, parts))
+    Ok((all, found))
 }
 
 /// The record with one byte too many at its end, which the library has to refuse there, after it has
@@ -172,17 +181,6 @@ fn refused_at_its_end(record: &Record) -> Result<Vec<u8>, String> {
         Err(refusal) if refusal == at_its_end => Ok(longer),
         _ => Err(format!("{} with a byte too many is not refused at its end", record.name)),
     }
-}
-
-/// One round of the check alone and of the value finder; each keeps its best time.
-fn parts_round(parts: &mut Parts, record: &[u8], longer: &[u8]) {
-    let check = clock::best(EFFORT, || {
-        let _ = black_box(Walk::Jumping.list_into(b"$", longer, &mut []));
-    });
-    let find = clock::best(EFFORT, || {
-        let _ = black_box(find_value(record, 0));
-    });
-    (parts.check, parts.find) = (parts.check.min(check), parts.find.min(find));
 }
 
 /// What the comparison prints of the stack of each call at 512 levels.
@@ -209,10 +207,10 @@ fn run(options: &Options) -> Result<(), String> {
     }
     let records = records(options.size, &folder)?;
     let rounds = options.rounds;
-    let (large, parts) = measure(&JOBS, &engines, &records, EFFORT, rounds)?;
+    let (large, found) = measure(&JOBS, &engines, &records, EFFORT, rounds)?;
     let (short, _) = measure(&SHORT_JOBS, &engines, &records, SHORT_EFFORT, rounds)?;
     let stack = stack()?;
-    let results = Results { engines, left_out, large, short, parts, stack, rounds };
+    let results = Results { engines, left_out, large, short, found, stack, rounds };
     for (name, text) in
         [("BENCHMARK.md", page::page(&results)), ("benchmark.svg", picture::picture(&results))]
     {

@@ -2,7 +2,7 @@
 
 use crate::engines::output;
 use crate::jobs::Job;
-use crate::{Measured, Parts, Results};
+use crate::{Found, Measured, Results};
 use records::large;
 use std::collections::BTreeSet;
 use std::process::Command;
@@ -173,6 +173,7 @@ fn records(results: &Results) -> String {
 fn walks(results: &Results) -> String {
     let head = strings([
         "record and query",
+        "dead",
         "check",
         "plain",
         "jumping",
@@ -182,30 +183,29 @@ fn walks(results: &Results) -> String {
         "walks alone, plain / jumping",
     ]);
     let mut rows = Vec::new();
-    for parts in &results.parts {
-        let of_record = |measured: &&Measured| measured.job.record == parts.record;
-        for measured in results.large.iter().filter(of_record) {
-            let (Ok(jumping), Ok(plain)) = (&measured.times[0], &measured.times[1]) else {
-                continue;
-            };
-            let (jump, walk) = (jumping - parts.check, plain - parts.check);
-            let alone = |time: f64| figures((time / MILLI).max(0.0));
-            // A walk of less than a hundredth of the check is too short to be told from it.
-            let ratio = match jump > parts.check / 100.0 {
-                true => figures((walk / jump).max(0.0)),
-                false => "–".to_string(),
-            };
-            rows.push(vec![
-                format!("{} `{}`", parts.record, measured.job.query()),
-                figures(parts.check / MILLI),
-                figures(plain / MILLI),
-                figures(jumping / MILLI),
-                figures(plain / jumping),
-                alone(walk),
-                alone(jump),
-                ratio,
-            ]);
-        }
+    for measured in &results.large {
+        let (Ok(jumping), Ok(plain)) = (&measured.times[0], &measured.times[1]) else {
+            continue;
+        };
+        let check = measured.check;
+        let (jump, walk) = (jumping - check, plain - check);
+        let alone = |time: f64| figures((time / MILLI).max(0.0));
+        // A walk of less than a hundredth of the check is too short to be told from it.
+        let ratio = match jump > check / 100.0 {
+            true => figures((walk / jump).max(0.0)),
+            false => "–".to_string(),
+        };
+        rows.push(vec![
+            format!("{} `{}`", measured.job.record, measured.job.query()),
+            format!("{:.0} %", measured.dead * 100.0),
+            figures(check / MILLI),
+            figures(plain / MILLI),
+            figures(jumping / MILLI),
+            figures(plain / jumping),
+            alone(walk),
+            alone(jump),
+            ratio,
+        ]);
     }
     table(&head, &rows)
 }
@@ -213,29 +213,28 @@ fn walks(results: &Results) -> String {
 /// The check and the value finder at the root, and how the peers compare with the check where a query
 /// asks for nothing else.
 fn checks(results: &Results) -> String {
+    let asks_nothing = |record: &str| {
+        let mut of_record = results.large.iter().filter(|measured| measured.job.record == record);
+        of_record.find(|measured| measured.job.steps.is_empty())
+    };
     let mut head = vec!["engine".to_string()];
-    head.extend(results.parts.iter().map(|parts| parts.record.to_string()));
-    let row = |name: &str, of: &dyn Fn(&Parts) -> String| {
-        let figures = results.parts.iter().map(of);
-        [name.to_string()].into_iter().chain(figures).collect::<Vec<String>>()
+    head.extend(results.found.iter().map(|found| found.record.to_string()));
+    let row = |name: &str, of: &dyn Fn(&Found) -> Option<String>| {
+        let cells = results.found.iter().map(|found| of(found).unwrap_or("–".to_string()));
+        [name.to_string()].into_iter().chain(cells).collect::<Vec<String>>()
     };
     let mut rows = vec![
-        row("the check", &|parts| figures(parts.check / MILLI)),
-        row("the value finder", &|parts| figures(parts.find / MILLI)),
+        row("the check", &|found| {
+            asks_nothing(found.record).map(|measured| figures(measured.check / MILLI))
+        }),
+        row("the value finder", &|found| Some(figures(found.time / MILLI))),
     ];
     let engines = results.engines.iter().enumerate();
     for (at, engine) in engines.filter(|(_, engine)| !engine.is_library()) {
-        rows.push(row(engine.name, &|parts| {
-            let asks_nothing = |measured: &&Measured| {
-                measured.job.record == parts.record && measured.job.steps.is_empty()
-            };
-            let measured = results.large.iter().find(asks_nothing);
-            match measured.map(|measured| &measured.times[at]) {
-                Some(Ok(time)) => {
-                    format!("{} ({})", figures(time / MILLI), figures(time / parts.check))
-                }
-                _ => "–".to_string(),
-            }
+        rows.push(row(engine.name, &|found| {
+            let measured = asks_nothing(found.record)?;
+            let time = measured.times[at].as_ref().ok()?;
+            Some(format!("{} ({})", figures(time / MILLI), figures(time / measured.check)))
         }));
     }
     table(&head, &rows)
