@@ -317,6 +317,30 @@ impl Writer<'_> {
         self.put(b"}");
     }
 
+    /// Objects with many small containers, of which a query enters few: one is left soon after
+    /// another, in the same block or over its edge.
+    fn small_containers(&mut self) {
+        self.put(b"[");
+        for _ in 0..self.random.between(1, 4) {
+            self.put(b"{");
+            for _ in 0..self.random.below(12) {
+                if self.random.once_in(3) {
+                    self.name_and_colon();
+                } else {
+                    self.put(format!("\"{NO_QUERY_NAME}\":").as_bytes());
+                }
+                self.values_left = 3;
+                self.container(2);
+                self.blanks();
+                self.put(b",");
+            }
+            self.name_and_colon();
+            self.string();
+            self.put(b"},");
+        }
+        self.put(b"0]");
+    }
+
     /// A chain whose length is between these.
     fn chain_of(&mut self, fewest: usize, most: usize) {
         let levels = self.random.between(fewest, most);
@@ -354,7 +378,8 @@ impl Writer<'_> {
 }
 
 /// A record: mostly a small tree; some are larger, some chains of about 512 levels, some begin
-/// near the edge of a block, some are bytes without a plan; some are damaged.
+/// near the edge of a block, some have many small containers, some are bytes without a plan; some
+/// are damaged.
 pub fn record(random: &mut Random, names: Names) -> Vec<u8> {
     let kind = random.below(40);
     if kind == 0 {
@@ -369,7 +394,8 @@ pub fn record(random: &mut Random, names: Names) -> Vec<u8> {
         5..=6 => writer.many_values(),
         7..=10 => writer.value_at_edge(),
         11..=14 => writer.unwanted_container(),
-        15..=17 => writer.value(TREE_LEVELS),
+        15..=16 => writer.value(TREE_LEVELS),
+        17..=20 => writer.small_containers(),
         _ => writer.container(TREE_LEVELS),
     }
     writer.blanks();
