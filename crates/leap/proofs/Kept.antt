@@ -20,13 +20,9 @@ use Rattle.blocks.specs.declared.Words.{Words}
 use Rattle.leap.specs.Brackets.{depthAt, depthIn, Closed}
 use Rattle.leap.specs.BracketLaws.{depth-calm, depth-same, closed-at, closed-once}
 use Rattle.leap.specs.Passing.{Finds, KeptBlock, Kept, Near}
-use Rattle.leap.proofs.Ways.{no-bracket-past, block-opens, block-closes}
+use Rattle.leap.proofs.Ways.{falls-inside, block-opens, block-closes, both}
 
 -- ---- just behind an opening bracket
-
-first : (x y : Bool) → (x && y) ≡ true → x ≡ true
-first true y e = refl
-first false y e = e
 
 second : (x y : Bool) → (x && not y) ≡ true → y ≡ false
 second true true e = absurd (false≢true e)
@@ -45,7 +41,7 @@ no-backslash b h = go (eqb b 0x5B) refl (eqb b 0x7B) refl h
 pub behind-opening : (s : List ℕ) (inside odd : Bool) (i : ℕ) → opensAt inside odd s i ≡ true → Carried inside odd s (suc i) false false
 unfolding opensAt inString oddBefore isBackslash
 behind-opening s inside odd i h =
-    let bracket = first (eqb (byteAt s i) 0x5B || eqb (byteAt s i) 0x7B) (not (inString inside odd s i)) h in
+    let bracket = both (eqb (byteAt s i) 0x5B || eqb (byteAt s i) 0x7B) (not (inString inside odd s i)) h in
     record {
       quoted-is = second (eqb (byteAt s i) 0x5B || eqb (byteAt s i) 0x7B) (inString inside odd s i) h;
       escaped-is = ap (λ (x : Bool). x && not (oddBefore odd s i)) (no-backslash (byteAt s i) bracket);
@@ -99,18 +95,9 @@ module _ (s : List ℕ) (inside odd : Bool) (near : ℕ) (behind : Carried insid
         ∙ sym (depth-on-words (place + 1) (omega (arith, in-block)))
         ∙ f .found small .1
 
-    in-record : place < length (drop near s)
-    unfolding depthIn
-    in-record = ⊎-elim
-        (λ (l : place < length (drop near s)). l)
-        (λ (l : length (drop near s) ≤ place).
-        let z = no-bracket-past (drop near s) false false place l in
-        let same = depth-calm (opensAt false false (drop near s)) (closesAt false false (drop near s)) 1 place (z .0) (z .1) in
-        absurd (omega (arith, depth-before, depth-behind)))
-        (lt-or-ge place (length (drop near s)))
-
     pub closes-there : Closed false false (drop near s) 1 (suc place)
-    closes-there = closed-at in-record (λ e. omega (arith, depth-before)) depth-behind
+    closes-there =
+        closed-at (falls-inside (drop near s) false false 1 place depth-before depth-behind) (λ e. omega (arith, depth-before)) depth-behind
 
 -- ---- what is kept
 

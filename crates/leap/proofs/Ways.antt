@@ -91,9 +91,20 @@ module _ {s : List ℕ} {at i : ℕ} {inside odd : Bool} {n : ℕ} (v : Tracked 
 
 -- ---- a block
 
-pub no-bracket-past : (s : List ℕ) (inside odd : Bool) (j : ℕ) → length s ≤ j → (opensAt inside odd s j ≡ false) × (closesAt inside odd s j ≡ false)
+no-bracket-past : (s : List ℕ) (inside odd : Bool) (j : ℕ) → length s ≤ j → (opensAt inside odd s j ≡ false) × (closesAt inside odd s j ≡ false)
 unfolding opensAt closesAt byteAt
 no-bracket-past s inside odd j h = rw (List·getD-eq-default s 0 h) (refl, refl)
+
+-- the depth falls from 1 to 0 only at a bracket of s
+pub falls-inside : (s : List ℕ) (inside odd : Bool) (n i : ℕ) → depthIn inside odd s n i ≡ 1 → depthIn inside odd s n (suc i) ≡ 0 → i < length s
+unfolding depthIn
+falls-inside s inside odd n i before behind = ⊎-elim
+    (λ (l : i < length s). l)
+    (λ (l : length s ≤ i).
+    let z = no-bracket-past s inside odd i l in
+    let same = depth-calm (opensAt inside odd s) (closesAt inside odd s) n i (z .0) (z .1) in
+    absurd (omega (arith, before, behind)))
+    (lt-or-ge i (length s))
 
 past-block : (s : List ℕ) (j : ℕ) → j < 64 → blockSize s ≤ j → length s ≤ j
 past-block s j h l = ⊎-elim
@@ -114,7 +125,7 @@ block-closes s inside odd j h = ⊎-elim
     (λ (l : blockSize s ≤ j). closing-past s inside odd j l ∙ sym (no-bracket-past s inside odd j (past-block s j h l) .1))
     (lt-or-ge j (blockSize s))
 
-both : (x y : Bool) → (x && y) ≡ true → x ≡ true
+pub both : (x y : Bool) → (x && y) ≡ true → x ≡ true
 both true y e = refl
 both false y e = e
 
@@ -167,16 +178,10 @@ module _ {s : List ℕ} {at i : ℕ} {inside odd : Bool} {n : ℕ} (v : Tracked 
 
     -- the bracket that was found stands in the record
     in-record : place < 64 → place < length (drop i s)
-    unfolding depthIn
-    in-record h = ⊎-elim
-        (λ (l : place < length (drop i s)). l)
-        (λ (l : length (drop i s) ≤ place).
-        let z = no-bracket-past (drop i s) inside odd place l in
-        let x : depthIn inside odd (drop i s) n place ≡ 1 = sym (word-depth place (omega arith)) ∙ f .found h .0 in
-        let y : depthIn inside odd (drop i s) n (place + 1) ≡ 0 = sym (word-depth (place + 1) (omega arith)) ∙ f .found h .1 in
-        let same = depth-calm (opensAt inside odd (drop i s)) (closesAt inside odd (drop i s)) n place (z .0) (z .1) in
-        absurd (omega (arith, ap (depthIn inside odd (drop i s) n) (add-one place))))
-        (lt-or-ge place (length (drop i s)))
+    in-record h =
+        falls-inside (drop i s) inside odd n place
+        (sym (word-depth place (omega arith)) ∙ f .found h .0)
+        (ap (depthIn inside odd (drop i s) n) (sym (add-one place)) ∙ sym (word-depth (place + 1) (omega arith)) ∙ f .found h .1)
 
     pub block-found : i < length s → place < 64 → Leads s at (i + place + 1)
     block-found in-it h =
