@@ -10,6 +10,15 @@ ghost use Rattle.encoding.specs.WideRun.{WideRun};
 
 mod tables;
 
+// Classes of bytes that are asked for by their number: brackets, the comma, blanks.
+pub const OPENING: u8 = 1;
+
+pub const CLOSING: u8 = 2;
+
+pub const COMMA: u8 = 4;
+
+pub const BLANK: u8 = 7;
+
 // How many rows of UTF-8 there are, and how many numbers each has in the table.
 const ROW_COUNT: usize = 9;
 

@@ -1,6 +1,9 @@
 // The value that begins at an offset of a record: a descent from the root, value by value.
+use encoding::CLOSING;
+use encoding::OPENING;
 use encoding::class;
 use encoding::classes;
+use json::MAX_DEPTH;
 use leap::leave;
 use leap::none_kept;
 use scan::enter_item;
@@ -15,17 +18,9 @@ ghost use Rattle.json.specs.Verdict.{maxBytes};
 ghost use Rattle.answers.specs.Finder.{Finds, valuePart};
 ghost use Rattle.find.specs.Seeks.{EndsValue, FirstItem, NextItem, SeeksValue, SeeksInside, FindsFrom};
 
-// The classes of brackets.
-const OPENING: u8 = 1;
-
-const CLOSING: u8 = 2;
-
 const COMMA: u8 = 0x2C;
 
 const BRACE: u8 = 0x7B;
-
-// How many levels a record may nest.
-const LEVELS: usize = 512;
 
 // Ground 8: no value begins at the offset.
 const NO_VALUE: u32 = 8;
@@ -173,7 +168,7 @@ fn find_from(classes: &[u8; 256], record: &[u8], offset: usize) -> usize
     ensures { λ r. ⌜ FindsFrom (now («record» .entry)) offset r ⌝ }
 {
     let at = skip_blanks(record, 0);
-    let sought = seek_value(classes, record, offset, at, LEVELS);
+    let sought = seek_value(classes, record, offset, at, MAX_DEPTH);
     sought.end
 }
 
