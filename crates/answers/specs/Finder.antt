@@ -3,7 +3,7 @@ use mathlib.Core.Path.{_≡_}
 use mathlib.Core.List.{List, [], _∷_}
 use mathlib.Core.Bool.{true, false}
 use mathlib.Core.Option.{Option, some, none}
-use Prim.Native.Nat.{ℕ, zero, suc, _-_}
+use Prim.Native.Nat.{ℕ, zero, suc, _+_, _-_}
 use lib.Dec.{eqb}
 use lib.ListN.{take, drop}
 use Rattle.encoding.specs.Verdict.{Verdict, taken, refused}
@@ -62,3 +62,17 @@ pub record Finds («record» : List ℕ) (offset g p e : ℕ) : Type 0 where
 unfoldable pub valuePart : («record» : List ℕ) → ℕ → List ℕ
 unfolding findEnd
 valuePart r at = take (findEnd r at - at) (drop at r)
+
+-- where that part begins, counted from the record's first byte: at the offset; at the first byte itself where the finder refuses
+unfoldable pub startIf : ℕ → ℕ → ℕ
+startIf zero at = at
+startIf (suc g) at = 0
+
+unfoldable pub partStart : («record» : List ℕ) → ℕ → ℕ
+unfolding startIf findVerdict
+partStart r at = startIf (findVerdict r at .ground) at
+
+-- the second of two places in memory, each a block and an offset in it, is n bytes behind the first
+pub record Behind (whole part : ℕ × ℕ) (n : ℕ) : Type 0 where
+  pub block-is : part .0 ≡ whole .0
+  pub offset-is : part .1 ≡ whole .1 + n

@@ -22,7 +22,7 @@ use Rattle.select.specs.Reach.{below-is, nodes-are}
 use Rattle.select.specs.Order.{node-unique}
 use Rattle.select.specs.Stands.{node-bytes}
 use Rattle.answers.specs.Lister.{orElse}
-use Rattle.answers.specs.Finder.{endAmong, endAt, endIn, offsetVerdict, findVerdict, orZero, endIf, findEnd, Finds, valuePart}
+use Rattle.answers.specs.Finder.{endAmong, endAt, endIn, offsetVerdict, findVerdict, orZero, endIf, findEnd, Finds, valuePart, startIf, partStart}
 use Rattle.answers.specs.Within.{RecordIs, record-is-taken, record-tree}
 use Rattle.answers.specs.ListerIs.{refuses-first}
 use Rattle.answers.specs.FinderSays.{Begins, FinderSays, recordRefused, noValue, found, ReaderSays, nothing, value}
@@ -161,23 +161,37 @@ module _ («record» : List ℕ) (offset : ℕ) where
   no-end (noValue t ht f) k = refl
   no-end (found t ht n b f) k = absurd (omega arith)
 
+  start-at : {g p e : ℕ} → FinderSays «record» offset g p e → partStart «record» offset ≡ startIf g offset
+  unfolding partStart
+  start-at x = ap (λ (g : ℕ). startIf g offset) (sym (finder-says-only x .ground-is))
+
+  no-start : {g : ℕ} → 0 < g → startIf g offset ≡ 0
+  unfolding startIf
+  no-start {g = zero} h = absurd (omega arith)
+  no-start {g = suc g} h = refl
+
   -- what is said of the reader's arguments is what it returns by computing
-  pub reader-says-only : {part : List ℕ} → ReaderSays «record» offset part → part ≡ valuePart «record» offset
+  pub reader-says-only : {start : ℕ} {part : List ℕ} → ReaderSays «record» offset start part
+      → (start ≡ partStart «record» offset) × (part ≡ valuePart «record» offset)
+  unfolding startIf
   reader-says-only (nothing {end = e} x h) =
       let z : e - offset ≡ 0 = omega (arith, no-end x h) in
-      sym (reader-part x ∙ rw z refl)
+      (sym (start-at x ∙ no-start h), sym (reader-part x ∙ rw z refl))
   reader-says-only (value t ht n b) =
       let x = found t ht n b (λ m c. begins-unique b c) in
-      sym (reader-part x ∙ rw (← b .first, ← ht .written) (node-bytes t n (b .node)))
+      (sym (start-at x), sym (reader-part x ∙ rw (← b .first, ← ht .written) (node-bytes t n (b .node))))
 
   -- what the reader returns by computing is said of its arguments
-  pub reader-says : ReaderSays «record» offset (valuePart «record» offset)
+  pub reader-says : ReaderSays «record» offset (partStart «record» offset) (valuePart «record» offset)
   reader-says = go finder-says
     where
-      computed : {part : List ℕ} → ReaderSays «record» offset part → ReaderSays «record» offset (valuePart «record» offset)
-      computed x = subst (ReaderSays «record» offset) (reader-says-only x) x
+      Returned : Type 0
+      Returned = ReaderSays «record» offset (partStart «record» offset) (valuePart «record» offset)
 
-      go : {g p e : ℕ} → FinderSays «record» offset g p e → ReaderSays «record» offset (valuePart «record» offset)
+      computed : {start : ℕ} {part : List ℕ} → ReaderSays «record» offset start part → Returned
+      computed x = let (s, p) = reader-says-only x in rw (← s, ← p) x
+
+      go : {g p e : ℕ} → FinderSays «record» offset g p e → Returned
       go (recordRefused v x h) = computed (nothing (recordRefused v x h) h)
       go (noValue t ht f) = computed (nothing (noValue t ht f) (omega arith))
       go (found t ht n b f) = computed (value t ht n b)

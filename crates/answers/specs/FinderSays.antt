@@ -22,8 +22,9 @@ pub data FinderSays («record» : List ℕ) (offset : ℕ) : (ground place end :
   found : (t : Tree) → RecordIs «record» t → (n : Node) → Begins t offset n → ((m : Node) → Begins t offset m → m ≡ n) →
       FinderSays «record» offset 0 0 (endOf n)
 
-pub data ReaderSays («record» : List ℕ) (offset : ℕ) : List ℕ → Type 0 where
-  -- the finder refuses: an empty part
-  nothing : {ground place end : ℕ} → FinderSays «record» offset ground place end → 0 < ground → ReaderSays «record» offset []
-  -- the bytes of the value that begins at the offset
-  value : (t : Tree) → RecordIs «record» t → (n : Node) → Begins t offset n → ReaderSays «record» offset (putValue (n .value) [])
+-- where the part begins, counted from the record's first byte, and its bytes
+pub data ReaderSays («record» : List ℕ) (offset : ℕ) : (start : ℕ) → List ℕ → Type 0 where
+  -- the finder refuses: an empty part, at the record's first byte
+  nothing : {ground place end : ℕ} → FinderSays «record» offset ground place end → 0 < ground → ReaderSays «record» offset 0 []
+  -- the value that begins at the offset, where it stands
+  value : (t : Tree) → RecordIs «record» t → (n : Node) → Begins t offset n → ReaderSays «record» offset offset (putValue (n .value) [])

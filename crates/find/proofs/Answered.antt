@@ -15,7 +15,7 @@ use Rattle.select.specs.Nodes.{IsNode, size, endOf, root}
 use Rattle.select.specs.Order.{first-before-end, below-within}
 use Rattle.select.specs.Visits.{nodes}
 use Rattle.answers.specs.Lister.{orElse}
-use Rattle.answers.specs.Finder.{endAmong, endAt, endIn, offsetVerdict, findVerdict, orZero, endIf, findEnd, Finds, valuePart}
+use Rattle.answers.specs.Finder.{endAmong, endAt, endIn, offsetVerdict, findVerdict, orZero, endIf, findEnd, Finds, valuePart, startIf, partStart}
 use Rattle.answers.specs.FinderIs.{finder-says-only, finds-say, reader-part, reader-says-only}
 use Rattle.answers.specs.FinderSays.{FinderSays, recordRefused, noValue, found, nothing}
 use Rattle.answers.specs.Within.{RecordIs, record-is-taken, record-tree}
@@ -86,5 +86,11 @@ module _ (s : List ℕ) (o : ℕ) where
     pub part-read : take (e - o) (drop o s) ≡ valuePart s o
     part-read = sym (reader-part s o (finds-say s o h))
 
-    pub part-empty : (g ≡ 0 → ⊥) → [] ≡ valuePart s o
+    -- where the finder refuses the part is empty and begins at the record's first byte
+    pub part-empty : (g ≡ 0 → ⊥) → (0 ≡ partStart s o) × ([] ≡ valuePart s o)
     part-empty f = reader-says-only s o (nothing (finds-say s o h) (omega (arith, f)))
+
+    -- else it begins at the offset
+    pub part-there : g ≡ 0 → partStart s o ≡ o
+    unfolding partStart startIf
+    part-there z = rw (← h .ground-is, z) refl

@@ -15,7 +15,7 @@ ghost use Prim.Native.Nat.{_≤_};
 ghost use lib.ListN.{length};
 ghost use Rattle.encoding.specs.ClassTable.{ClassTable};
 ghost use Rattle.json.specs.Verdict.{maxBytes};
-ghost use Rattle.answers.specs.Finder.{Finds, valuePart};
+ghost use Rattle.answers.specs.Finder.{Finds, valuePart, partStart, Behind};
 ghost use Rattle.find.specs.Seeks.{EndsValue, FirstItem, NextItem, SeeksValue, SeeksInside, FindsFrom};
 
 const COMMA: u8 = 0x2C;
@@ -204,6 +204,7 @@ pub fn find_value(record: &[u8], offset: usize) -> Found
 // The value reader: the part of `record` that is the value that begins at `offset`, or an empty part where the finder refuses.
 pub fn read_value(record: &[u8], offset: usize) -> &[u8]
     ensures { λ r. ⌜ now r ≡ valuePart (now («record» .entry)) offset ⌝ }
+    ensures { λ r. ⌜ Behind («record» .entry .ptr) (r .ptr) (partStart (now («record» .entry)) offset) ⌝ }
 {
     let found = find_value(record, offset);
     if found.ground != 0 {
