@@ -15,7 +15,8 @@ use Rattle.json.specs.Grammar.{Digit, Int, Frac, Exp, ExpSign, E, eByte,
 use Rattle.json.specs.Grammar.{Literal, Kind, array, object, opening, closing, Key, Value, Items, More, Tree}
 use Rattle.json.specs.Grammar.{putLiteral, putInt, putFrac, putExp, putExpSign, putMinus, putChar, putChars, putString}
 use Rattle.json.specs.Grammar.{putKey, putValue, putItems, putMore, text, nesting, itemsNesting, moreNesting}
-use Rattle.json.specs.Room.{Room, left, endless, Fits, Within, wider, Texts, fits-left, fits-right, fits-less}
+use Rattle.json.specs.Room.{Room, left, endless, wider}
+use Rattle.json.specs.RoomLaws.{Fits, Within, Texts, fits-left, fits-right, fits-less}
 use Rattle.json.specs.Machine.{Second, anyTail, afterE0, afterED, afterF0, afterF4, secondLow, secondHigh, Ctl}
 use Rattle.json.specs.Machine.{item, colon, after, inString, escaping, hexDue, tailDue, wordDue, afterMinus}
 use Rattle.json.specs.Machine.{afterZero, inInt, afterPoint, inFrac, afterE, afterSign, inExp, valueDue}

@@ -9,7 +9,8 @@ use lib.ListN.{take, drop, length, take-append-drop}
 use lib.Seq.{take-add}
 use Rattle.encoding.specs.Prefix.{Alive, DeadPlace}
 use Rattle.json.specs.Grammar.{JsonText}
-use Rattle.json.specs.Room.{Room, endless, Texts}
+use Rattle.json.specs.Room.{Room, endless}
+use Rattle.json.specs.RoomLaws.{Texts}
 use Rattle.json.specs.Machine.{Ctl, valueDue, Stack, State, dead, at, step, run, place, start}
 use Rattle.json.specs.Sound.{sound}
 use Rattle.json.specs.Complete.{complete, viable, dead-accepts}

@@ -14,7 +14,8 @@ use Rattle.json.specs.Grammar as G
 use Rattle.json.specs.Grammar.{Digit, Int, Frac, Exp, ExpSign, E, eByte, Escape, escapeByte, Hex, hexByte}
 use Rattle.json.specs.Grammar.{Char, Kind, array, object, opening, closing, Key, Value, More}
 use Rattle.json.specs.Grammar.{putInt, putFrac, putExp, putExpSign, putChars, putKey, putValue, putMore, text, nesting, moreNesting}
-use Rattle.json.specs.Room.{Room, left, endless, Fits, Within, wider, Texts, fits-nothing, fits-max, fits-more}
+use Rattle.json.specs.Room.{Room, left, endless, wider}
+use Rattle.json.specs.RoomLaws.{Fits, Within, Texts, fits-nothing, fits-max, fits-more}
 use Rattle.json.specs.Machine.{anyTail, afterE0, afterED, afterF0, afterF4, secondLow, secondHigh, Ctl, item}
 use Rattle.json.specs.Machine.{colon, after, inString, escaping, hexDue, tailDue, wordDue, afterMinus}
 use Rattle.json.specs.Machine.{afterZero, inInt, afterPoint, inFrac, afterE, afterSign, inExp}

@@ -17,7 +17,7 @@ use Rattle.json.specs.Append.{blanks-split, length-blanks, value-split, length-
 use Rattle.json.specs.Grammar as G
 use Rattle.json.specs.Grammar.{Literal, Minus, Int, Char, Name, Value}
 use Rattle.json.specs.Grammar.{putLiteral, putMinus, putInt, putFrac, putExp, putChars, putString, putKey, putValue}
-use Rattle.json.specs.Read.{in-bounds}
+use Rattle.json.specs.ParseLaws.{in-bounds}
 use Rattle.select.specs.Nodes.{size, keySize}
 use Rattle.swar.specs.Kinds.{unquoted, gap}
 use Rattle.swar.specs.Run.{Run}
