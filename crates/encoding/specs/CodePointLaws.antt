@@ -290,7 +290,7 @@ pub wrong-exactly : (s : List ℕ) (k : ℕ) → (reading s ≡ wrong k) ↔ ((k
 wrong-exactly s k = (λ e. (wrong-within (reads s) k e, dead-of s (wrong k) e refl), λ d. back (reading s) refl (d .0) (d .1))
   where
     back : (x : Reading) → reading s ≡ x → k < length s → DeadPlace StartsWide s k → reading s ≡ wrong k
-    back (whole n) e h d = absurd (d .dead h (alive-take StartsWide (suc k) s (starts-alive s (whole-starts s n e))))
+    back (whole n) e h d = absurd (d .dead h (alive-take StartsWide s (suc k) (starts-alive s (whole-starts s n e))))
     back (wrong j) e h d = cc (dead-place-unique StartsWide s (dead-of s (wrong j) e refl) d)
     back short e h d = absurd (omega (arith, dead-place-unique StartsWide s (dead-of s short e refl) d))
 
@@ -302,10 +302,10 @@ short-exactly s = (λ e. (none e, all s (dead-of s short e refl)), λ d. back (r
     none e w = let z : _≡_ {A = ℕ} 0 1 = cc (wide-reading (w .point) (w .after), w .written) in omega arith
 
     all : (s : List ℕ) → DeadPlace StartsWide s (length s) → Alive StartsWide s
-    all [] d = alive-take StartsWide 0 (putWide least []) (starts-alive (putWide least []) (record { point = least; after = []; written = refl }))
+    all [] d = alive-take StartsWide (putWide least []) 0 (starts-alive (putWide least []) (record { point = least; after = []; written = refl }))
     all (b ∷ t) d = subst (Alive StartsWide) (take-length (b ∷ t)) (d .before (length t) (omega arith))
 
     back : (x : Reading) → reading s ≡ x → (StartsWide s → ⊥) → Alive StartsWide s → reading s ≡ short
     back (whole n) e h a = absurd (h (whole-starts s n e))
-    back (wrong j) e h a = absurd (dead-at s j e (alive-take StartsWide (suc j) s a))
+    back (wrong j) e h a = absurd (dead-at s j e (alive-take StartsWide s (suc j) a))
     back short e h a = e

@@ -1,4 +1,5 @@
 pub mod Append
+pub mod Beyond
 pub mod Check
 pub mod CheckLaws
 pub mod Complete

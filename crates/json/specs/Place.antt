@@ -1,13 +1,14 @@
 -- The machine's place is the dead byte of the grammar, for every room (document 01, "Grounds for refusing").
 -- It is alive while the machine is, since every state can be completed; the machine is dead only where no text begins so.
-use mathlib.Core.Path.{_≡_, refl, ap, sym, _∙_}
-use mathlib.Core.List.{List, [], _∷_, _++_, append-assoc}
-use Prim.Native.Nat.{ℕ, suc, _≤_, _<_, _+_, _-_}
-use native.Mathlib.Nat.{le-antisymm, le-of-suc-le-suc}
-use native.Mathlib.Omega.{arith, by-contra}
-use lib.ListN.{take, drop, length, take-append-drop}
-use lib.Seq.{take-add}
+use mathlib.Core.Path.{_≡_, refl, ap, _∙_}
+use mathlib.Core.List.{List, [], _∷_, _++_}
+use Prim.Native.Nat.{ℕ, suc, _≤_, _<_}
+use native.Mathlib.Nat.{le-of-suc-le-suc}
+use native.Mathlib.Omega.{arith}
+use lib.ListN.{take, length, getD}
+use lib.Seq.{take-suc}
 use Rattle.encoding.specs.Prefix.{Alive, DeadPlace}
+use Rattle.encoding.specs.PrefixLaws.{dead-place-at}
 use Rattle.json.specs.Grammar.{JsonText}
 use Rattle.json.specs.Room.{Room, endless}
 use Rattle.json.specs.RoomLaws.{Texts}
@@ -15,37 +16,16 @@ use Rattle.json.specs.Machine.{Ctl, valueDue, Stack, State, dead, at, st
 use Rattle.json.specs.Sound.{sound}
 use Rattle.json.specs.Complete.{complete, viable, dead-accepts}
 
--- laws of prefixes, for any grammar
-
-pub alive-take : (L : List ℕ → Type 0) (s : List ℕ) (m n : ℕ) → m ≤ n → Alive L (take n s) → Alive L (take m s)
-unfolding Alive
-alive-take L s m n h (u, t) =
-    let e : m + (n - m) ≡ n = omega arith in
-    let q : take n s ≡ take m s ++ take (n - m) (drop m s) = ap (λ (x : ℕ). take x s) (sym e) ∙ take-add m (n - m) s in
-    (take (n - m) (drop m s) ++ u, rw (q, append-assoc) at t)
-
--- a text's own prefixes are alive
-pub alive-text : (L : List ℕ → Type 0) (s : List ℕ) (n : ℕ) → L s → Alive L (take n s)
-unfolding Alive
-alive-text L s n t = (drop n s, rw take-append-drop t)
-
-pub dead-place-at : (L : List ℕ → Type 0) (s : List ℕ) (n : ℕ) → n ≤ length s → Alive L (take n s) →
-    (n < length s → Alive L (take (suc n) s) → ⊥) → DeadPlace L s n
-dead-place-at L s n h a d = record { within = h; before = λ i l. alive-take L s (suc i) n l a; dead = d }
-
--- a text has one dead place
-pub dead-place-unique : (L : List ℕ → Type 0) (s : List ℕ) (m n : ℕ) → DeadPlace L s m → DeadPlace L s n → m ≡ n
-dead-place-unique L s m n p q = le-antisymm (no-later n m q p) (no-later m n p q)
-  where
-    no-later : (i j : ℕ) → DeadPlace L s i → DeadPlace L s j → j ≤ i
-    no-later i j d d′ = by-contra j i (λ h. d .dead (omega (arith, d′ .within)) (d′ .before i h))
-
 -- the machine and the prefixes of texts
 
 pub run-append : (st : State) (p u : List ℕ) → run st (p ++ u) ≡ run (run st p) u
 unfolding run
 run-append st [] u = refl
 run-append st (b ∷ p) u = run-append (step st b) p u
+
+pub run-more : (st : State) (s : List ℕ) (i : ℕ) → i < length s → run st (take (suc i) s) ≡ step (run st (take i s)) (getD s i 0)
+unfolding run
+run-more st s i h = ap (run st) (take-suc s i 0 h) ∙ run-append st (take i s) (getD s i 0 ∷ [])
 
 pub alive-run : (ρ : Room) (p : List ℕ) (c : Ctl) (k : Stack) (σ : Room) → run (start ρ) p ≡ at c k σ → Alive (Texts ρ) p
 unfolding Alive

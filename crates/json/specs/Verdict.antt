@@ -46,7 +46,8 @@ pub data RecordSays (s : List ℕ) : Verdict → Type 0 where
   -- 4: the record has too many bytes
   long : maxBytes < length s → RecordSays s (refused 4 maxBytes)
   -- 5: the record is not a JSON text, p is the place of its dead byte, and ground 6 has no smaller one
-  wrong : (p : ℕ) → length s ≤ maxBytes → (JsonText s → ⊥) → DeadPlace JsonText s p → Alive (Nested maxDepth) (take p s) →
+  wrong : (p : ℕ) → length s ≤ maxBytes → (JsonText s → ⊥) → DeadPlace JsonText s p → ((r : ℕ) → r < p → OpensBeyond maxDepth s r → ⊥) →
       RecordSays s (refused 5 p)
-  -- 6: a bracket that the grammar allows opens a level too many, and ground 5 has no smaller place
+  -- 6: a bracket that the grammar allows opens a level too many; as some JSON text begins up to it and with it, no byte up to it is dead,
+  -- and so ground 5 has no smaller place
   deep : (p : ℕ) → length s ≤ maxBytes → OpensBeyond maxDepth s p → RecordSays s (refused 6 p)
