@@ -11,6 +11,7 @@ use lib.Seq.{take-at, take-length}
 use Rattle.encoding.specs.Bytes.{In}
 use Rattle.encoding.specs.BytesLaws.{make, from-low, to-high}
 use Rattle.encoding.specs.Utf8.{Wide, Tail, putWide, c2-df, e0, e1-ec, ed, ee-ef, f0, f1-f3, f4}
+use Rattle.encoding.specs.Utf8Laws.{append-wide}
 use Rattle.encoding.specs.Prefix.{Alive, DeadPlace}
 use Rattle.encoding.specs.PrefixLaws.{alive-take, dead-place-unique}
 use Rattle.encoding.specs.CodePoint.{Reading, whole, wrong, short, later, due, reading, isWhole, extent, StartsWide}
@@ -227,17 +228,6 @@ reads-wide (first {b} {s} {x} f r) n e =
 pub whole-wide : (s : List ℕ) (n : ℕ) → reading s ≡ whole n → (p : Wide) × (putWide p (drop n s) ≡ s)
 whole-wide s n e = reads-wide (reads s) n e
 
-pub wide-append : (p : Wide) (s : List ℕ) → putWide p s ≡ putWide p [] ++ s
-unfolding putWide
-wide-append (c2-df x y) s = refl
-wide-append (e0 x y z) s = refl
-wide-append (e1-ec x y z) s = refl
-wide-append (ed x y z) s = refl
-wide-append (ee-ef x y z) s = refl
-wide-append (f0 x y z w) s = refl
-wide-append (f1-f3 x y z w) s = refl
-wide-append (f4 x y z w) s = refl
-
 -- a code point of n bytes is read exactly where its bytes stand
 pub whole-exactly : (s : List ℕ) (n : ℕ) → (reading s ≡ whole n) ↔ ((p : Wide) × (putWide p [] ≡ take n s) × (sizeOf p ≡ n))
 unfolding sizeOf
@@ -248,11 +238,11 @@ whole-exactly s n = (there, λ w. back (w .0) (w .1) (w .2))
         let w = whole-wide s n e in
         let p = w .0 in
         let size : sizeOf p ≡ n = cc (wide-reading p (drop n s), w .1) in
-        (p, sym (take-at (putWide p []) (drop n s) n size) ∙ ap (take n) (sym (wide-append p (drop n s)) ∙ w .1), size)
+        (p, sym (take-at (putWide p []) (drop n s) n size) ∙ ap (take n) (sym (append-wide p [] (drop n s)) ∙ w .1), size)
 
     back : (p : Wide) → putWide p [] ≡ take n s → sizeOf p ≡ n → reading s ≡ whole n
     back p e size =
-        ap reading (sym (take-append-drop n s) ∙ ap (λ (t : List ℕ). t ++ drop n s) (sym e) ∙ sym (wide-append p (drop n s)))
+        ap reading (sym (take-append-drop n s) ∙ ap (λ (t : List ℕ). t ++ drop n s) (sym e) ∙ sym (append-wide p [] (drop n s)))
         ∙ wide-reading p (drop n s)
         ∙ ap whole size
 

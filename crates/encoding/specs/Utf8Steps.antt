@@ -9,7 +9,7 @@ use lib.Dec.{leb}
 use lib.ListN.{length, getD, take, drop}
 use borrow.Author.Tests.{leb-true, leb-false}
 use Rattle.encoding.specs.BytesLaws.{inside, beneath, beyond}
-use Rattle.encoding.specs.Utf8.{Row, row, rows}
+use Rattle.encoding.specs.Utf8.{Second, anyTail, afterE0, afterED, afterF0, afterF4, secondLow, secondHigh, Row, row, rows}
 use Rattle.encoding.specs.CodePoint.{Reading, whole, wrong, short, later, due, readBy, reading}
 
 -- one, two or three bytes from 80 to BF, or what follows this first byte
@@ -17,24 +17,21 @@ pub data Due : Type 0 where
   one two three : Due
   after-e0 after-ed after-f0 after-f4 : Due
 
--- the bounds of the next byte
+-- the next byte, and its bounds
+abbrev pub second : Due → Second
+second one = anyTail
+second two = anyTail
+second three = anyTail
+second after-e0 = afterE0
+second after-ed = afterED
+second after-f0 = afterF0
+second after-f4 = afterF4
+
 abbrev pub lowest : Due → ℕ
-lowest one = 0x80
-lowest two = 0x80
-lowest three = 0x80
-lowest after-e0 = 0xA0
-lowest after-ed = 0x80
-lowest after-f0 = 0x90
-lowest after-f4 = 0x80
+lowest d = secondLow (second d)
 
 abbrev pub highest : Due → ℕ
-highest one = 0xBF
-highest two = 0xBF
-highest three = 0xBF
-highest after-e0 = 0xBF
-highest after-ed = 0x9F
-highest after-f0 = 0xBF
-highest after-f4 = 0x8F
+highest d = secondHigh (second d)
 
 -- how many bytes are due after the next one
 abbrev pub more : Due → ℕ

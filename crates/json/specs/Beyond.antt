@@ -14,7 +14,7 @@ use Rattle.json.specs.Grammar.{JsonText, Nested}
 use Rattle.json.specs.Room.{Room, left, endless}
 use Rattle.json.specs.Machine.{Ctl, valueDue, Stack, State, dead, at, step, run, start}
 use Rattle.json.specs.Steps.{Freed, both-dead, alike, no-room, step-freed}
-use Rattle.json.specs.Place.{run-more, alive-run, dead-run-alive}
+use Rattle.json.specs.RunLaws.{run-more, alive-run, dead-run-alive}
 use Rattle.json.specs.Verdict.{OpensBeyond}
 
 -- the machine with room for n levels and the machine without a limit, over the bytes of s before place i

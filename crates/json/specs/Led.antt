@@ -1,4 +1,4 @@
--- What a stretch of the text does to the verdict, in every container and every room.
+-- What a stretch of the text does to the verdict, in every container and every room. Assumes nothing.
 use mathlib.Core.Path.{_≡_, refl, _∙_}
 use mathlib.Core.List.{List}
 use mathlib.Core.Bool.{Bool, true, false}

@@ -9,9 +9,9 @@ pub mod Led
 pub mod Machine
 pub mod Parse
 pub mod ParseLaws
-pub mod Place
 pub mod Room
 pub mod RoomLaws
+pub mod RunLaws
 pub mod Says
 pub mod Sound
 pub mod Steps

@@ -7,11 +7,12 @@ use mathlib.Core.Option.{Option, some, none, Option·none-ne-some}
 use Prim.Native.Nat as N
 use Prim.Native.Nat.{ℕ, suc, _≤_, _<_}
 use native.Mathlib.Omega.{arith}
-use lib.Dec.{T, leb, ltb, leb→le}
+use lib.Dec.{T, leb, ltb}
 use lib.ListN.{length}
-use borrow.Author.Tests.{ltb-true, le-leb}
+use borrow.Author.Tests.{ltb-true}
 use Rattle.encoding.specs.Bytes as B
 use Rattle.encoding.specs.Bytes.{In, putIn, Blank, Blanks, blankByte, putBlanks}
+use Rattle.encoding.specs.BytesLaws.{make, in-bounds}
 use Rattle.encoding.specs.Utf8 as U
 use Rattle.json.specs.Grammar as G
 use Rattle.json.specs.Grammar.{Digit, Minus, Int, Frac, ExpSign, E, Exp, Escape, escapeByte, Hex, hexByte, Char, Kind, Name, Key, Value}
@@ -25,20 +26,7 @@ use Rattle.json.specs.Parse.{parseColon, parseKey}
 pub on-got : {A B : Type 0} {o : Got A} {a : A} {s : List ℕ} (f : A → Parser B) → o ≡ got a s → on o f ≡ f a s
 on-got f e = ap (λ (x : Got _). on x f) e
 
--- the bounds of a byte of a range
-
-both : (x y : Bool) → T (x && y) → T x × T y
-both true y t = (tt, t)
-both false y t = absurd t
-
-pub in-bounds : {lo hi : ℕ} (x : In lo hi) → (lo ≤ x .byte) × (x .byte ≤ hi)
-in-bounds {lo} {hi} x =
-    let t = both (leb lo (x .byte)) (leb (x .byte) hi) (x .ok) in
-    (leb→le lo (x .byte) (t .0), leb→le (x .byte) hi (t .1))
-
-pub bounded : (lo hi b : ℕ) → lo ≤ b → b ≤ hi → T (leb lo b && leb b hi)
-bounded lo hi b p q = rw (le-leb lo b p, le-leb b hi q) tt
-
+-- two ranges apart have no byte in common
 outside : (lo hi l h b : ℕ) → ltb h lo || ltb hi l ≡ true → lo ≤ b → b ≤ hi → l ≤ b → b ≤ h → ⊥
 outside lo hi l h b e p q p′ q′ = go (ltb h lo) refl e
   where
@@ -127,8 +115,8 @@ module _ {A : Type 0} where
   by-other x cs other s e = ap (λ (f : Parser A). f s) (missed x cs (λ _. other (x .byte ∷ s)) e)
 
   pub by-only : (b : ℕ) (r : Parser A) (cs : List (Case (Parser A))) (other : Parser A) (s : List ℕ) → parseBy (only b r ∷ cs) other (b ∷ s) ≡ r s
-  unfolding caseAt
-  by-only b r cs other s = by-case 0 (only b r ∷ cs) other refl (record { byte = b; ok = bounded b b b (omega arith) (omega arith) }) s
+  unfolding caseAt make
+  by-only b r cs other s = by-case 0 (only b r ∷ cs) other refl (make b (omega arith) (omega arith)) s
 
 module _ {A : Type 0} where
   pub in-parsed : {lo hi : ℕ} (x : In lo hi) (f : In lo hi → Parser A) (s : List ℕ) → parseIn lo hi f (x .byte ∷ s) ≡ f x s

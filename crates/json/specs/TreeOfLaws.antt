@@ -12,12 +12,13 @@ use lib.ListN.{length}
 use borrow.Author.Tests.{eqb-true, eq-eqb}
 use Rattle.encoding.specs.Bytes as B
 use Rattle.encoding.specs.Bytes.{In, putIn, Blanks, putBlanks}
+use Rattle.encoding.specs.BytesLaws.{make, in-bounds, length-blanks}
 use Rattle.json.specs.Grammar as G
 use Rattle.json.specs.Grammar.{Literal, Minus, Int, Char, Kind, Key, opening, closing, Value, Items, More, Tree, JsonText}
 use Rattle.json.specs.Grammar.{putLiteral, putMinus, putInt, putFrac, putExp, putString, putKey, putValue, putItems, putMore, text}
-use Rattle.json.specs.Append.{length-blanks, length-key, length-value, value-positive, length-more, more-positive}
+use Rattle.json.specs.Append.{length-key, length-value, value-positive, length-more, more-positive}
 use Rattle.json.specs.Parse.{Got, Parser, got, fail, only, choose, pick, parseBy, parseByte, parseBytes, many, blankOf, digitOf}
-use Rattle.json.specs.ParseLaws.{on-got, in-bounds, bounded, allApart, by-other, by-only, blanks-parsed, Solid, solid-in}
+use Rattle.json.specs.ParseLaws.{on-got, allApart, by-other, by-only, blanks-parsed, Solid, solid-in}
 use Rattle.json.specs.Parse.{parseFrac, parseExp, parseNumber}
 use Rattle.json.specs.ParseLaws.{NumberEnd, number-parsed, rest-parsed, key-parsed}
 use Rattle.json.specs.TreeOf.{Parsers, parseItem, parseItems, parseMore, parseContainer, parseValue, parsers, parseEnd, parseTree}
@@ -30,12 +31,12 @@ record Begins (lo hi : ℕ) (s : List ℕ) : Type 0 where
   pub is : s ≡ first .byte ∷ behind
 
 number-begins : (g : Minus) (n : Int) (s : List ℕ) → Begins 0x2D 0x39 (putMinus g (putInt n s))
-unfolding putMinus putInt
+unfolding putMinus putInt make
 number-begins G.minus n s = record { first = record { byte = 0x2D; ok = tt }; behind = putInt n s; is = refl }
 number-begins G.unsigned G.nought s = record { first = record { byte = 0x30; ok = tt }; behind = s; is = refl }
 number-begins G.unsigned (G.whole d ds) s =
     let b = in-bounds d in
-    record { first = record { byte = d .byte; ok = bounded 0x2D 0x39 (d .byte) (omega arith) (omega arith) }; behind = putIn ds s; is = refl }
+    record { first = make (d .byte) (omega arith) (omega arith); behind = putIn ds s; is = refl }
 
 -- s begins with no blank and with no closing bracket, as an item does
 record ItemStart (k : Kind) (s : List ℕ) : Type 0 where

@@ -11,6 +11,7 @@ use lib.Dec.{leb}
 use lib.ListN.{length, take, drop, getD, replicate, length-take, length-drop, take-append-drop, List·getD-eq-default}
 use lib.Seq.{getD-drop}
 use Rattle.encoding.specs.Ascii.{ascii}
+use Rattle.encoding.specs.BytesLaws.{length-blanks, size}
 use Rattle.encoding.specs.Verdict.{Verdict, taken}
 use Rattle.json.specs.Grammar as J
 use Rattle.json.specs.TreeOf.{treeOf}
@@ -18,7 +19,7 @@ use Rattle.json.specs.TreeOfLaws.{treeOf-sound}
 use Rattle.json.specs.Verdict as R
 use Rattle.json.specs.Says.{recordSays}
 use Rattle.query.specs.Grammar as Q
-use Rattle.query.specs.Append.{length-blanks, append-query, size}
+use Rattle.query.specs.Append.{append-query}
 use Rattle.query.specs.Steps.{Step}
 use Rattle.query.specs.Verdict as query
 use Rattle.query.specs.Verdict.{stepsIn}
