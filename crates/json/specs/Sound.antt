@@ -500,28 +500,28 @@ unfolding putBlanks
 done-after [] ρ e = over []
 done-after (x ∷ k) ρ e = absurd (so e)
 
-done : (c : Ctl) (k : Stack) (ρ : Room) → final c && isEmpty k ≡ true → Rest c k ρ []
-done (item x f) k ρ e = absurd (so e)
-done colon k ρ e = absurd (so e)
-done after k ρ e = done-after k ρ e
-done (inString f) k ρ e = absurd (so e)
-done (escaping f) k ρ e = absurd (so e)
-done (hexDue n f) k ρ e = absurd (so e)
-done (tailDue p n f) k ρ e = absurd (so e)
-done (wordDue b bs) k ρ e = absurd (so e)
-done afterMinus k ρ e = absurd (so e)
-done afterZero k ρ e = zero-over [] (done-after k ρ e)
-done inInt k ρ e = int-over [] (zero-over [] (done-after k ρ e))
-done afterPoint k ρ e = absurd (so e)
-done inFrac k ρ e = frac-over [] (done-after k ρ e)
-done afterE k ρ e = absurd (so e)
-done afterSign k ρ e = absurd (so e)
-done inExp k ρ e = exp-over [] (done-after k ρ e)
+done : (c : Ctl) (k : Stack) (ρ : Room) → final c ≡ true → isEmpty k ≡ true → Rest c k ρ []
+done (item x o) k ρ f e = absurd (so f)
+done colon k ρ f e = absurd (so f)
+done after k ρ f e = done-after k ρ e
+done (inString o) k ρ f e = absurd (so f)
+done (escaping o) k ρ f e = absurd (so f)
+done (hexDue n o) k ρ f e = absurd (so f)
+done (tailDue p n o) k ρ f e = absurd (so f)
+done (wordDue b bs) k ρ f e = absurd (so f)
+done afterMinus k ρ f e = absurd (so f)
+done afterZero k ρ f e = zero-over [] (done-after k ρ e)
+done inInt k ρ f e = int-over [] (zero-over [] (done-after k ρ e))
+done afterPoint k ρ f e = absurd (so f)
+done inFrac k ρ f e = frac-over [] (done-after k ρ e)
+done afterE k ρ f e = absurd (so f)
+done afterSign k ρ f e = absurd (so f)
+done inExp k ρ f e = exp-over [] (done-after k ρ e)
 
 rest : (st : State) (s : List ℕ) → accept (run st s) ≡ true → RestOf st s
 unfolding run
 rest dead [] e = absurd (so e)
-rest (at c k ρ) [] e = done c k ρ e
+rest (at c k ρ) [] e = let q = and-eq-true-iff (final c) (isEmpty k) .0 e in done c k ρ (q .0) (q .1)
 rest st (b ∷ s) e = back-step st b s (rest (step st b) s e)
 
 text-of : (ρ : Room) (s : List ℕ) → ItemRest [] ρ array false s → Texts ρ s
