@@ -12,7 +12,7 @@ use Rattle.encoding.specs.Verdict.{Verdict, refused}
 use Rattle.json.specs.Grammar.{Kind, array, opening}
 use Rattle.json.specs.Room.{Room, left, endless}
 use Rattle.json.specs.Machine.{Ctl, item, Stack, State, dead, at, entered, step, final, isEmpty, accept}
-use Rattle.json.specs.Steps.{Freed, both-dead, alike, no-room, step-freed, item-open}
+use Rattle.json.specs.MachineLaws.{Freed, both-dead, alike, no-room, step-freed, item-open}
 use Rattle.json.specs.Check.{ended, blame, checkFrom}
 
 -- the verdict on the text s from place i on

@@ -23,8 +23,8 @@ use Rattle.json.specs.Machine.{item, colon, after, inString, escaping, h
 use Rattle.json.specs.Machine.{afterZero, inInt, afterPoint, inFrac, afterE, afterSign, inExp, valueDue}
 use Rattle.json.specs.Machine.{Stack, top, State, dead, at, entered, Rule, one, span, lowest, highest, takes, afterRules}
 use Rattle.json.specs.Machine.{exponentRules, hexRules, closed, rules, pick, step, run, final, accept, start}
-use Rattle.json.specs.Steps.{pick-later, takes-between, landing, lands, step-in, step-by, inside, item-blank}
-use Rattle.json.specs.Steps.{item-open, item-close, colon-blank, after-blank, after-comma, after-close}
+use Rattle.json.specs.MachineLaws.{pick-later, takes-between, landing, lands, step-in, step-by, inside, item-blank}
+use Rattle.json.specs.MachineLaws.{item-open, item-close, colon-blank, after-blank, after-comma, after-close}
 
 -- s completes a text from the state
 abbrev pub Accepts : State → List ℕ → Type 0

@@ -7,6 +7,7 @@ pub mod Examples
 pub mod Grammar
 pub mod Led
 pub mod Machine
+pub mod MachineLaws
 pub mod Parse
 pub mod ParseLaws
 pub mod Room
@@ -14,7 +15,6 @@ pub mod RoomLaws
 pub mod RunLaws
 pub mod Says
 pub mod Sound
-pub mod Steps
 pub mod TreeExamples
 pub mod TreeOf
 pub mod TreeOfLaws

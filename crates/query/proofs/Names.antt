@@ -19,7 +19,7 @@ use Rattle.query.specs.Machine as M
 use Rattle.query.specs.Machine.{Control, done, inside, short, quoted, dead, Row, only, range, firstRows, beginRows, dotRow, pick, step}
 use Rattle.query.specs.Read.{letter, event, reading}
 use Rattle.query.specs.Spell.{spell, alike}
-use Rattle.query.specs.Rows.{miss, landing, leads, allParted, passes}
+use Rattle.query.specs.MachineLaws.{miss, landing, leads, allParted, passes}
 use Rattle.query.specs.Scans.{NameByteIs, digit, upper, underscore, lower, below-digits, below-upper, between-cases, above-lower}
 use Rattle.query.specs.Scans.{spelt, NoName, Moved, NameChar, FirstChar, ShortName, QuotedChar, QuotedName}
 use Rattle.query.proofs.At.{byte-at, end-at, stop-at}

@@ -19,7 +19,7 @@ use Rattle.query.specs.Machine.{Home, Control, inside, tailDue, dead, Ro
 use Rattle.query.specs.Machine.{wideRows, rows, pick, step, final}
 use Rattle.query.specs.Grammar as G
 use Rattle.query.specs.Read.{letter, event, bad, reading}
-use Rattle.query.specs.Rows.{hit, miss, landing, leads, allUnder, dies-above}
+use Rattle.query.specs.MachineLaws.{hit, miss, landing, leads, allUnder, dies-above}
 use Rattle.query.specs.Scans.{spelt}
 use Rattle.query.proofs.At.{end-at, stop-at}
 use Rattle.query.proofs.Letters.{spelt-here, spelt-letter}

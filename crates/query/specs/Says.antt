@@ -18,7 +18,7 @@ use Rattle.query.specs.Steps.{Step}
 use Rattle.query.specs.Machine.{root}
 use Rattle.query.specs.Read.{Placed, named, Reading, good, reading, stepsRead}
 use Rattle.query.specs.Append.{append-spaced}
-use Rattle.query.specs.Rows.{of-T, not-T, so}
+use Rattle.query.specs.MachineLaws.{of-T, not-T, so}
 use Rattle.query.specs.Text.{placed, reads-text}
 use Rattle.query.specs.Sound.{sound}
 use Rattle.query.specs.Place.{Tells, well, ill, tells, accepts-text, dead-place}

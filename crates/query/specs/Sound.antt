@@ -19,7 +19,7 @@ use Rattle.query.specs.Machine.{Home, short, quoted, Control, root, done
 use Rattle.query.specs.Machine.{inside, tailDue, State, dead, at}
 use Rattle.query.specs.Machine.{Row, range, only, wideRows, letterRows, firstRows, stepRows, beginRows, dotRows, innerRows, charRows}
 use Rattle.query.specs.Machine.{rows, takes, pick, step, run, final, accept, start}
-use Rattle.query.specs.Rows.{so}
+use Rattle.query.specs.MachineLaws.{so}
 
 -- what completes a query, by where the machine is
 

@@ -19,7 +19,7 @@ use Rattle.query.specs.Machine.{Control, root, done, gap, opened, closin
 use Rattle.query.specs.Machine.{wideRows, firstRows, tailsDue, step}
 use Rattle.query.specs.Read as R
 use Rattle.query.specs.Read.{Event, keep, begin, letter, isDotted, isOpened, event, Placed, named, Reading, good, bad, note, reading}
-use Rattle.query.specs.Rows.{of-T, hit, landing, leads-in}
+use Rattle.query.specs.MachineLaws.{of-T, hit, landing, leads-in}
 use Rattle.query.specs.Append.{append-later, append-char}
 
 -- one byte
