@@ -2,14 +2,15 @@
 -- places and lengths can be counted. Assumes nothing.
 use mathlib.Core.Path.{_≡_, refl, ap, subst, sym, _∙_}
 use mathlib.Core.List.{List, [], _∷_, _++_}
-use mathlib.Core.Bool.{true, false, _&&_, and-false}
+use mathlib.Core.Bool.{true, false, _&&_, and-false, and-eq-true-iff, false≢true}
+use mathlib.Core.Logic.{_↔_}
 use Prim.Native.Nat.{ℕ, _+_, _≤_, _<_}
 use native.Mathlib.Omega.{arith}
-use lib.Dec.{T, leb, leb→le}
+use lib.Dec.{T, leb, leb→le, eqb}
 use lib.ListN.{length, length-append}
-use borrow.Author.Tests.{le-leb, lt-leb}
+use borrow.Author.Tests.{le-leb, lt-leb, eqb-true, eq-eqb}
 use Rattle.bits.specs.Truth.{and-left, and-right}
-use Rattle.encoding.specs.Bytes.{In, putIn, Blanks, blankByte, putBlanks}
+use Rattle.encoding.specs.Bytes.{In, putIn, Blanks, blankByte, putBlanks, sameBytes}
 
 -- the test of a range, from what is known of the byte
 module _ (lo hi b : ℕ) where
@@ -64,3 +65,21 @@ pub length-blanks : (w : Blanks) (s : List ℕ) → length (putBlanks w s) ≡ l
 unfolding putBlanks
 length-blanks [] s = omega arith
 length-blanks (b ∷ w) s = omega (arith, length-blanks w s)
+
+pub same-bytes : (s u : List ℕ) → (sameBytes s u ≡ true) ↔ (s ≡ u)
+unfolding sameBytes
+same-bytes s u = (there s u, λ e. rw e (itself u))
+  where
+    there : (s u : List ℕ) → sameBytes s u ≡ true → s ≡ u
+    there [] [] e = refl
+    there [] (c ∷ u) e = absurd (false≢true e)
+    there (b ∷ s) [] e = absurd (false≢true e)
+    there (b ∷ s) (c ∷ u) e =
+        let h = and-eq-true-iff (eqb b c) (sameBytes s u) .0 e in
+        let p : b ≡ c = eqb-true b c (h .0) in
+        let q : s ≡ u = there s u (h .1) in
+        cc
+
+    itself : (s : List ℕ) → sameBytes s s ≡ true
+    itself [] = refl
+    itself (b ∷ s) = and-eq-true-iff (eqb b b) (sameBytes s s) .1 (eq-eqb b b refl, itself s)

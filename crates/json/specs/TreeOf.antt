@@ -1,11 +1,11 @@
 -- The tree of a text, computed: the parsers of values, and with them of the whole text.
 use mathlib.Core.List.{List, [], _∷_}
-use mathlib.Core.Bool.{Bool, true, false, _&&_}
+use mathlib.Core.Bool.{Bool, true, false}
 use mathlib.Core.Option.{Option, some, none}
 use Prim.Native.Nat as N
 use Prim.Native.Nat.{ℕ, suc}
-use lib.Dec.{eqb}
 use lib.ListN.{length}
+use Rattle.encoding.specs.Bytes.{sameBytes}
 use Rattle.json.specs.Grammar as G
 use Rattle.json.specs.Grammar.{Kind, Key, closing, Value, Items, More, Tree, text}
 use Rattle.json.specs.Parse.{Got, Parser, got, fail, on, only, choose, pick, parseBy, parseIn, parseByte, parseBytes, many, blankOf, parseBlanks}
@@ -53,13 +53,6 @@ parseEnd a (b ∷ s) = none
 unfoldable pub parseTree : Parser Tree
 parseTree s =
     parseBlanks (λ w z. on (parsers (length s) .value z) (λ v. parseBlanks (λ w′. parseEnd (record { before = w; value = v; after = w′ })))) s
-
--- the same bytes
-unfoldable pub sameBytes : List ℕ → List ℕ → Bool
-sameBytes [] [] = true
-sameBytes [] (c ∷ u) = false
-sameBytes (b ∷ s) [] = false
-sameBytes (b ∷ s) (c ∷ u) = eqb b c && sameBytes s u
 
 abbrev pub ifSame : Bool → Tree → Option Tree
 ifSame true t = some t

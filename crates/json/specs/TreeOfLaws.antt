@@ -2,17 +2,15 @@
 -- Assumes nothing.
 use mathlib.Core.Path.{_≡_, refl, ap, sym, _∙_}
 use mathlib.Core.List.{List, [], _∷_}
-use mathlib.Core.Bool.{Bool, true, false, false≢true, and-eq-true-iff}
+use mathlib.Core.Bool.{Bool, true, false}
 use mathlib.Core.Option.{some, none, Option·none-ne-some}
 use Prim.Native.Nat as N
 use Prim.Native.Nat.{ℕ, suc, _≤_}
 use native.Mathlib.Omega.{arith}
-use lib.Dec.{eqb}
 use lib.ListN.{length}
-use borrow.Author.Tests.{eqb-true, eq-eqb}
 use Rattle.encoding.specs.Bytes as B
-use Rattle.encoding.specs.Bytes.{In, putIn, Blanks, putBlanks}
-use Rattle.encoding.specs.BytesLaws.{make, in-bounds, length-blanks}
+use Rattle.encoding.specs.Bytes.{In, putIn, Blanks, putBlanks, sameBytes}
+use Rattle.encoding.specs.BytesLaws.{make, in-bounds, length-blanks, same-bytes}
 use Rattle.json.specs.Grammar as G
 use Rattle.json.specs.Grammar.{Literal, Minus, Int, Char, Kind, Key, opening, closing, Value, Items, More, Tree, JsonText}
 use Rattle.json.specs.Grammar.{putLiteral, putMinus, putInt, putFrac, putExp, putString, putKey, putValue, putItems, putMore, text}
@@ -22,7 +20,7 @@ use Rattle.json.specs.ParseLaws.{on-got, allApart, by-other, by-only, bl
 use Rattle.json.specs.Parse.{parseFrac, parseExp, parseNumber}
 use Rattle.json.specs.ParseLaws.{NumberEnd, number-parsed, rest-parsed, key-parsed}
 use Rattle.json.specs.TreeOf.{Parsers, parseItem, parseItems, parseMore, parseContainer, parseValue, parsers, parseEnd, parseTree}
-use Rattle.json.specs.TreeOf.{sameBytes, ifSame, ifText, treeOf}
+use Rattle.json.specs.TreeOf.{ifSame, ifText, treeOf}
 
 -- s begins with a byte from lo to hi
 record Begins (lo hi : ℕ) (s : List ℕ) : Type 0 where
@@ -211,25 +209,9 @@ tree-back t =
     ∙ on-got _ (value-back (t .value) (length (putBlanks (t .before) v)) u (omega arith) (blanks-end (t .after) [] nothing-end))
     ∙ blanks-parsed (t .after) _ [] solid-nothing
 
-same-bytes : (s u : List ℕ) → sameBytes s u ≡ true → s ≡ u
-unfolding sameBytes
-same-bytes [] [] e = refl
-same-bytes [] (c ∷ u) e = absurd (false≢true e)
-same-bytes (b ∷ s) [] e = absurd (false≢true e)
-same-bytes (b ∷ s) (c ∷ u) e =
-    let h = and-eq-true-iff (eqb b c) (sameBytes s u) .0 e in
-    let p : b ≡ c = eqb-true b c (h .0) in
-    let q : s ≡ u = same-bytes s u (h .1) in
-    cc
-
-same-itself : (s : List ℕ) → sameBytes s s ≡ true
-unfolding sameBytes
-same-itself [] = refl
-same-itself (b ∷ s) = and-eq-true-iff (eqb b b) (sameBytes s s) .1 (eq-eqb b b refl, same-itself s)
-
 pub treeOf-text : (t : Tree) → treeOf (text t) ≡ some t
 unfolding treeOf
-treeOf-text t = ap (ifText (text t)) (tree-back t) ∙ ap (λ (b : Bool). ifSame b t) (same-itself (text t))
+treeOf-text t = ap (ifText (text t)) (tree-back t) ∙ ap (λ (b : Bool). ifSame b t) (same-bytes (text t) (text t) .1 refl)
 
 pub treeOf-sound : (s : List ℕ) (t : Tree) → treeOf s ≡ some t → text t ≡ s
 unfolding treeOf
@@ -238,7 +220,7 @@ treeOf-sound s t e = sound (parseTree s) e
     same : (u : Tree) (b : Bool) → sameBytes (text u) s ≡ b → ifSame b u ≡ some t → text t ≡ s
     same u true h e =
         let q : u ≡ t = cc in
-        rw (← q) (same-bytes (text u) s h)
+        rw (← q) (same-bytes (text u) s .0 h)
     same u false h e = absurd (Option·none-ne-some _ e)
 
     sound : (o : Got Tree) → ifText s o ≡ some t → text t ≡ s
