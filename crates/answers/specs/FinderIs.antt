@@ -13,8 +13,9 @@ use lib.ListN.{take, drop}
 use Rattle.encoding.specs.Verdict.{Verdict}
 use Rattle.encoding.specs.Verdict as verdict
 use Rattle.json.specs.Grammar.{Tree}
-use Rattle.json.specs.TreeOf.{unambiguous}
-use Rattle.json.specs.Verdict.{RecordSays, recordVerdict, recordSays, record-says-only}
+use Rattle.json.specs.TreeOfLaws.{unambiguous}
+use Rattle.json.specs.Verdict.{RecordSays, recordVerdict}
+use Rattle.json.specs.Says.{recordSays, record-says-only}
 use Rattle.json.specs.Verdict as J
 use Rattle.select.specs.Nodes.{Node, IsNode, endOf, root}
 use Rattle.select.specs.Visits.{Visit, Way, nodes}

@@ -12,7 +12,8 @@ use lib.Seq.{take-at, drop-at, take-all, length-take-le}
 use Rattle.encoding.specs.Verdict.{Verdict}
 use Rattle.encoding.specs.Verdict as verdict
 use Rattle.json.specs.Grammar.{Tree}
-use Rattle.json.specs.Verdict.{RecordSays, recordVerdict, recordSays, record-says-only}
+use Rattle.json.specs.Verdict.{RecordSays, recordVerdict}
+use Rattle.json.specs.Says.{recordSays, record-says-only}
 use Rattle.json.specs.Verdict as J
 use Rattle.query.specs.Grammar.{Query, stepsOf}
 use Rattle.query.specs.Verdict.{QuerySays}

@@ -5,10 +5,12 @@ use Prim.Native.Nat.{ℕ, suc, _+_, _≤_}
 use native.Mathlib.Omega.{arith}
 use lib.ListN.{length, take}
 use lib.Seq.{take-all}
+use Rattle.encoding.specs.BytesLaws.{size, length-blanks}
 use Rattle.encoding.specs.Verdict.{Verdict}
 use Rattle.json.specs.Verdict as J
-use Rattle.json.specs.Verdict.{maxDepth, maxBytes, recordVerdict, OpensBeyond, RecordSays, recordSays}
-use Rattle.query.specs.Append.{append-query, length-blanks, size}
+use Rattle.json.specs.Verdict.{maxDepth, maxBytes, recordVerdict, OpensBeyond, RecordSays}
+use Rattle.json.specs.Says.{recordSays}
+use Rattle.query.specs.Append.{append-query}
 use Rattle.query.specs.Grammar.{Query, Spaced, putQuery, putSpaced, putSegment, text}
 use Rattle.query.specs.Says.{querySays}
 use Rattle.query.specs.Verdict as Q

@@ -8,8 +8,10 @@ use lib.ListN.{length}
 use Rattle.encoding.specs.Verdict.{taken}
 use Rattle.json.specs.Grammar.{Tree, nesting}
 use Rattle.json.specs.Grammar as J
-use Rattle.json.specs.TreeOf.{treeOf, treeOf-text}
-use Rattle.json.specs.Verdict.{maxBytes, maxDepth, recordVerdict, record-taken}
+use Rattle.json.specs.TreeOf.{treeOf}
+use Rattle.json.specs.TreeOfLaws.{treeOf-text}
+use Rattle.json.specs.Verdict.{maxBytes, maxDepth, recordVerdict}
+use Rattle.json.specs.Says.{record-taken}
 use Rattle.query.specs.Grammar.{Query, stepsOf}
 use Rattle.query.specs.Grammar as Q
 use Rattle.query.specs.Verdict.{maxQueryBytes, maxSteps, stepsIn, queryVerdict}

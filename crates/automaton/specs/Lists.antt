@@ -9,7 +9,8 @@ use Rattle.encoding.specs.Verdict.{Verdict}
 use Rattle.encoding.specs.Verdict as verdict
 use Rattle.json.specs.Grammar.{Tree}
 use Rattle.json.specs.Verdict as J
-use Rattle.json.specs.Verdict.{recordVerdict, RecordSays, recordSays}
+use Rattle.json.specs.Verdict.{recordVerdict, RecordSays}
+use Rattle.json.specs.Says.{recordSays}
 use Rattle.query.specs.Verdict.{queryVerdict, stepsIn}
 use Rattle.select.specs.Ways.{Span, spans, peak}
 use Rattle.answers.specs.Lister.{orElse, inputVerdict, spansOf, spansIn, peakOf, peakIn, pairsOf, leftOver, listVerdict}

@@ -8,14 +8,14 @@ use native.Mathlib.Numerals.{add-one}
 use native.Mathlib.Omega.{arith}
 use lib.ListN.{length, getD, drop, drop-of-length-le}
 use lib.Seq.{drop-cons}
-use Rattle.encoding.specs.CodePoint.{Reading, whole, wrong, short, later, due, isWhole, Scanned}
+use Rattle.encoding.specs.CodePoint.{Decoding, whole, wrong, short, later, due, isWhole, Scanned}
 use Rattle.encoding.specs.CodePointLaws.{is-whole-later, extent-later}
 use Rattle.encoding.specs.Utf8Steps.{due-on, due-under, due-over}
 
 here : (s : List ℕ) (i : ℕ) → i < length s → drop i s ≡ getD s i 0 ∷ drop (i + 1) s
 here s i h = drop-cons s i 0 h ∙ ap (λ (n : ℕ). getD s i 0 ∷ drop n s) (sym (add-one i))
 
-module _ {s : List ℕ} {i : ℕ} {read : List ℕ → Reading} where
+module _ {s : List ℕ} {i : ℕ} {read : List ℕ → Decoding} where
   -- nothing is due
   pub at-last : ((t : List ℕ) → read t ≡ whole 0) → Scanned read s i true i
   at-last e =
@@ -37,7 +37,7 @@ module _ {s : List ℕ} {i : ℕ} {read : List ℕ → Reading} where
         record { ok-whole = ap isWhole (sym same); at-extent = rw same (omega arith) }
 
     pub one-on :
-        {rest : List ℕ → Reading} {ok : Bool} {at : ℕ} → ((t : List ℕ) → read (getD s i 0 ∷ t) ≡ later (rest t)) →
+        {rest : List ℕ → Decoding} {ok : Bool} {at : ℕ} → ((t : List ℕ) → read (getD s i 0 ∷ t) ≡ later (rest t)) →
         Scanned rest s (i + 1) ok at → Scanned read s i ok at
     one-on {rest} e a =
         let t = drop (i + 1) s in

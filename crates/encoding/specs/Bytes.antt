@@ -1,8 +1,8 @@
 -- Bytes by their ranges, and blanks: what both grammars are written with.
 use mathlib.Core.List.{List, [], _∷_}
-use mathlib.Core.Bool.{_&&_}
+use mathlib.Core.Bool.{Bool, true, false, _&&_}
 use Prim.Native.Nat.{ℕ}
-use lib.Dec.{T, leb}
+use lib.Dec.{T, leb, eqb}
 
 -- a byte of a range, as ABNF's %xLO-HI
 pub record In (lo hi : ℕ) : Type 0 where
@@ -32,3 +32,10 @@ Blanks = List Blank
 unfoldable pub putBlanks : Blanks → List ℕ → List ℕ
 putBlanks [] s = s
 putBlanks (b ∷ bs) s = blankByte b ∷ putBlanks bs s
+
+-- the same bytes
+unfoldable pub sameBytes : List ℕ → List ℕ → Bool
+sameBytes [] [] = true
+sameBytes [] (c ∷ u) = false
+sameBytes (b ∷ s) [] = false
+sameBytes (b ∷ s) (c ∷ u) = eqb b c && sameBytes s u

@@ -12,6 +12,7 @@ pub mod PrefixLaws
 pub mod RowTable
 pub mod Utf8
 pub mod Utf8At
+pub mod Utf8Laws
 pub mod Utf8Steps
 pub mod Verdict
 pub mod WideRun

@@ -7,8 +7,8 @@ use lib.ListN.{length, take}
 unfoldable pub Alive : (List ℕ → Type 0) → List ℕ → Type 0
 Alive L p = (u : List ℕ) × L (p ++ u)
 
--- the place of the dead byte of s: with no byte before it, but with it, no text of the grammar can begin up to and including it;
--- the length of s where s has no dead byte
+-- the place of the dead byte of s, the first one with which no text of the grammar can begin up to and including it: up to and including
+-- each byte before it some text begins as s does, up to and including it none; where s has no such byte, the place is the length of s
 pub record DeadPlace (L : List ℕ → Type 0) (s : List ℕ) (place : ℕ) : Type 0 where
   pub within : place ≤ length s
   pub before : (i : ℕ) → i < place → Alive L (take (suc i) s)

@@ -10,7 +10,7 @@ use lib.Seq.{getD-append-add}
 use Rattle.bits.specs.Truth.{allBelow, all-at}
 use Rattle.encoding.specs.BytesLaws.{beneath, beyond}
 use Rattle.encoding.specs.Utf8.{Row, rows}
-use Rattle.encoding.specs.CodePoint.{wrong, later, due, readBy, reading}
+use Rattle.encoding.specs.CodePoint.{wrong, later, due, decodeBy, decoding}
 use Rattle.encoding.specs.Utf8Steps.{afterRow, rowAt, row-hit}
 
 -- the numbers of the rows, row after row
@@ -32,8 +32,8 @@ pub record RowIs (n low high least most bytes : ℕ) : Type 0 where
 -- r is the number of the row, after the first, that has b as a first byte, or 9 where none has
 pub record RowOf (b r : ℕ) : Type 0 where
   pub within : r ≤ 9
-  pub found : r < 9 → (s : List ℕ) → reading (b ∷ s) ≡ later (afterRow (rowAt rows r) s)
-  pub none : r ≡ 9 → (s : List ℕ) → reading (b ∷ s) ≡ wrong 0
+  pub found : r < 9 → (s : List ℕ) → decoding (b ∷ s) ≡ later (afterRow (rowAt rows r) s)
+  pub none : r ≡ 9 → (s : List ℕ) → decoding (b ∷ s) ≡ wrong 0
 
 -- number k of row n stands at n * 5 + k
 number-at : (rs : List Row) (n k : ℕ) → n < length rs → k < 5 → getD (numbers rs) (n * 5 + k) 0 ≡ getD (numbers (rowAt rs n ∷ [])) k 0
@@ -94,18 +94,18 @@ ascends n h = leb→le (rowAt rows n .low) (rowAt rows (n + 1) .low) (all-at 8 r
 -- the search for the row of a first byte, from row n on
 module _ (b : ℕ) where
   abbrev pub From : ℕ → Type 0
-  From n = (s : List ℕ) → reading (b ∷ s) ≡ readBy (drop n rows) (b ∷ s)
+  From n = (s : List ℕ) → decoding (b ∷ s) ≡ decodeBy (drop n rows) (b ∷ s)
 
   pub from-start : From 1
-  unfolding reading
+  unfolding decoding
   from-start s = refl
 
   row-miss :
       (n : ℕ) (rs : List Row) (s : List ℕ) → n < length rs → (leb (rowAt rs n .low) b && leb b (rowAt rs n .high)) ≡ false →
-      readBy (drop n rs) (b ∷ s) ≡ readBy (drop (n + 1) rs) (b ∷ s)
-  unfolding readBy
+      decodeBy (drop n rs) (b ∷ s) ≡ decodeBy (drop (n + 1) rs) (b ∷ s)
+  unfolding decodeBy
   row-miss n [] s h e = absurd (omega arith)
-  row-miss zero (r ∷ rs) s h e = rw (e, readBy)
+  row-miss zero (r ∷ rs) s h e = rw (e, decodeBy)
   row-miss (suc n) (r ∷ rs) s h e = let z : suc n + 1 ≡ suc (n + 1) = omega arith in rw z (row-miss n rs s (omega arith) e)
 
   module _ (n : ℕ) (h : n < 9) (f : From n) where
@@ -127,12 +127,12 @@ module _ (b : ℕ) where
         }
 
   pub row-none : (n : ℕ) → 9 ≤ n → n ≤ 9 → From n → RowOf b n
-  unfolding rows readBy
+  unfolding rows decodeBy
   row-none n h k f =
       record {
         within = k;
         found = λ z. absurd (omega arith);
-        none = λ z s. f s ∙ ap (λ (m : ℕ). readBy (drop m rows) (b ∷ s)) z;
+        none = λ z s. f s ∙ ap (λ (m : ℕ). decodeBy (drop m rows) (b ∷ s)) z;
       }
 
   -- the rows ascend, so that a byte below one of them is in none after it

@@ -29,6 +29,24 @@ putWide (f0 x y z w) s = x .byte ∷ y .byte ∷ z .byte ∷ w .byte ∷ s
 putWide (f1-f3 x y z w) s = x .byte ∷ y .byte ∷ z .byte ∷ w .byte ∷ s
 putWide (f4 x y z w) s = x .byte ∷ y .byte ∷ z .byte ∷ w .byte ∷ s
 
+-- what may follow the first byte of a code point from 80 (hexadecimal) on: any byte of 80-BF, or fewer after E0, ED, F0, F4
+pub data Second : Type 0 where
+  anyTail afterE0 afterED afterF0 afterF4 : Second
+
+abbrev pub secondLow : Second → ℕ
+secondLow anyTail = 0x80
+secondLow afterE0 = 0xA0
+secondLow afterED = 0x80
+secondLow afterF0 = 0x90
+secondLow afterF4 = 0x80
+
+abbrev pub secondHigh : Second → ℕ
+secondHigh anyTail = 0xBF
+secondHigh afterE0 = 0xBF
+secondHigh afterED = 0x9F
+secondHigh afterF0 = 0xBF
+secondHigh afterF4 = 0x8F
+
 -- a row as numbers: the bounds of the first byte, those of the second, and how many bytes there are in all;
 -- each byte after the second is from 80 to BF
 pub record Row : Type 0 where

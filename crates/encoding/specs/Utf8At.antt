@@ -9,8 +9,8 @@ use lib.ListN.{length, getD, drop, length-drop}
 use lib.Seq.{getD-drop, drop-drop}
 use Rattle.encoding.specs.Utf8.{Wide, putWide}
 use Rattle.encoding.specs.Prefix.{DeadPlace}
-use Rattle.encoding.specs.CodePoint.{Reading, whole, wrong, short, reading, isWhole, extent, StartsWide, Scanned}
-use Rattle.encoding.specs.CodePointLaws.{is-whole-later, extent-later, reading-within, whole-wide, dead-byte}
+use Rattle.encoding.specs.CodePoint.{Decoding, whole, wrong, short, decoding, isWhole, extent, StartsWide, Scanned}
+use Rattle.encoding.specs.CodePointLaws.{is-whole-later, extent-later, decoding-within, whole-wide, dead-byte}
 use Rattle.encoding.specs.Utf8Steps.{Due, one, lowest, highest, First, Next, Rest, Reads, reads}
 use Rattle.encoding.specs.Utf8Steps as Steps
 
@@ -48,7 +48,7 @@ module _ (s : List ℕ) where
     rest-from = sym (drop-drop 1 i s) ∙ ap (drop 1) e
 
   rest-at :
-      {d : Due} {t : List ℕ} {x : Reading} → Rest d t x → (i : ℕ) → drop i s ≡ t → {ok : Bool} {at : ℕ} →
+      {d : Due} {t : List ℕ} {x : Decoding} → Rest d t x → (i : ℕ) → drop i s ≡ t → {ok : Bool} {at : ℕ} →
       ok ≡ isWhole x → at ≡ i + extent t x → RestAt s d i ok at
   rest-at Steps.cut i e w p = let q : i + 0 ≡ i = omega arith in rw (w, p, q) (cut (nothing i e))
   rest-at (Steps.under {d} {b} {s = t} l) i e w p =
@@ -61,7 +61,7 @@ module _ (s : List ℕ) where
       (rest-at r (i + 1) (rest-from i b t e) (w ∙ is-whole-later x) (omega (arith, p, extent-later b t x)))
 
   reads-from :
-      {t : List ℕ} {x : Reading} → Reads t x → (i : ℕ) → drop i s ≡ t → {ok : Bool} {at : ℕ} →
+      {t : List ℕ} {x : Decoding} → Reads t x → (i : ℕ) → drop i s ≡ t → {ok : Bool} {at : ℕ} →
       ok ≡ isWhole x → at ≡ i + extent t x → ReadsAt s i ok at
   reads-from Steps.empty i e w p = let q : i + 0 ≡ i = omega arith in rw (w, p, q) (cut (nothing i e))
   reads-from (Steps.too-low {b} {s = t} l) i e w p =
@@ -72,21 +72,21 @@ module _ (s : List ℕ) where
       first {d = d} {at = at} (some i b t e) (rw (byte i b t e) f)
       (rest-at r (i + 1) (rest-from i b t e) (w ∙ is-whole-later x) (omega (arith, p, extent-later b t x)))
 
-module _ {s : List ℕ} {i : ℕ} {ok : Bool} {at : ℕ} (r : Scanned reading s i ok at) where
+module _ {s : List ℕ} {i : ℕ} {ok : Bool} {at : ℕ} (r : Scanned decoding s i ok at) where
   -- the answer, byte by byte
   pub reads-at : ReadsAt s i ok at
   reads-at = reads-from s (reads (drop i s)) i refl (r .ok-whole) (r .at-extent)
 
   -- the place is in the text
   pub scanned-within : i ≤ length s → at ≤ length s
-  scanned-within h = omega (arith, r .at-extent, reading-within (drop i s), length-drop i s)
+  scanned-within h = omega (arith, r .at-extent, decoding-within (drop i s), length-drop i s)
 
   -- ok: a code point stands there
   pub scanned-whole : ok ≡ true → (p : Wide) × (putWide p (drop at s) ≡ drop i s)
-  scanned-whole e = go (reading (drop i s)) refl (sym (r .ok-whole) ∙ e) (r .at-extent)
+  scanned-whole e = go (decoding (drop i s)) refl (sym (r .ok-whole) ∙ e) (r .at-extent)
     where
       go :
-          (x : Reading) → reading (drop i s) ≡ x → isWhole x ≡ true → at ≡ i + extent (drop i s) x →
+          (x : Decoding) → decoding (drop i s) ≡ x → isWhole x ≡ true → at ≡ i + extent (drop i s) x →
           (p : Wide) × (putWide p (drop at s) ≡ drop i s)
       go (whole n) f w q =
           let p = whole-wide (drop i s) n f in
@@ -98,7 +98,7 @@ module _ {s : List ℕ} {i : ℕ} {ok : Bool} {at : ℕ} (r : Scanned reading s 
   pub scanned-dead : ok ≡ false → DeadPlace StartsWide (drop i s) (at - i)
   scanned-dead e =
       let t = drop i s in
-      let far : extent t (reading t) ≡ at - i = omega (arith, r .at-extent) in
+      let far : extent t (decoding t) ≡ at - i = omega (arith, r .at-extent) in
       rw far at (dead-byte t (sym (r .ok-whole) ∙ e))
 
 rest-moved : {s : List ℕ} {d : Due} {i : ℕ} {ok : Bool} {at : ℕ} → RestAt s d i ok at → i ≤ at

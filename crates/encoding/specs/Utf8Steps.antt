@@ -9,32 +9,29 @@ use lib.Dec.{leb}
 use lib.ListN.{length, getD, take, drop}
 use borrow.Author.Tests.{leb-true, leb-false}
 use Rattle.encoding.specs.BytesLaws.{inside, beneath, beyond}
-use Rattle.encoding.specs.Utf8.{Row, row, rows}
-use Rattle.encoding.specs.CodePoint.{Reading, whole, wrong, short, later, due, readBy, reading}
+use Rattle.encoding.specs.Utf8.{Second, anyTail, afterE0, afterED, afterF0, afterF4, secondLow, secondHigh, Row, row, rows}
+use Rattle.encoding.specs.CodePoint.{Decoding, whole, wrong, short, later, due, decodeBy, decoding}
 
 -- one, two or three bytes from 80 to BF, or what follows this first byte
 pub data Due : Type 0 where
   one two three : Due
   after-e0 after-ed after-f0 after-f4 : Due
 
--- the bounds of the next byte
+-- the next byte, and its bounds
+abbrev pub second : Due → Second
+second one = anyTail
+second two = anyTail
+second three = anyTail
+second after-e0 = afterE0
+second after-ed = afterED
+second after-f0 = afterF0
+second after-f4 = afterF4
+
 abbrev pub lowest : Due → ℕ
-lowest one = 0x80
-lowest two = 0x80
-lowest three = 0x80
-lowest after-e0 = 0xA0
-lowest after-ed = 0x80
-lowest after-f0 = 0x90
-lowest after-f4 = 0x80
+lowest d = secondLow (second d)
 
 abbrev pub highest : Due → ℕ
-highest one = 0xBF
-highest two = 0xBF
-highest three = 0xBF
-highest after-e0 = 0xBF
-highest after-ed = 0x9F
-highest after-f0 = 0xBF
-highest after-f4 = 0x8F
+highest d = secondHigh (second d)
 
 -- how many bytes are due after the next one
 abbrev pub more : Due → ℕ
@@ -67,24 +64,24 @@ pub data Next : Due → Due → Type 0 where
   f4-two : Next after-f4 two
 
 -- how the bytes due are read
-pub data Rest : Due → List ℕ → Reading → Type 0 where
+pub data Rest : Due → List ℕ → Decoding → Type 0 where
   cut : {d : Due} → Rest d [] short
   under : {d : Due} {b : ℕ} {s : List ℕ} → b < lowest d → Rest d (b ∷ s) (wrong 0)
   over : {d : Due} {b : ℕ} {s : List ℕ} → highest d < b → Rest d (b ∷ s) (wrong 0)
   last : {b : ℕ} {s : List ℕ} → 0x80 ≤ b → b ≤ 0xBF → Rest one (b ∷ s) (whole 1)
   next :
-      {d e : Due} {b : ℕ} {s : List ℕ} {x : Reading} →
+      {d e : Due} {b : ℕ} {s : List ℕ} {x : Decoding} →
       Next d e → lowest d ≤ b → b ≤ highest d → Rest e s x → Rest d (b ∷ s) (later x)
 
 -- how a code point from 80 on is read
-pub data Reads : List ℕ → Reading → Type 0 where
+pub data Reads : List ℕ → Decoding → Type 0 where
   empty : Reads [] short
   too-low : {b : ℕ} {s : List ℕ} → b < 0xC2 → Reads (b ∷ s) (wrong 0)
   too-high : {b : ℕ} {s : List ℕ} → 0xF4 < b → Reads (b ∷ s) (wrong 0)
-  first : {b : ℕ} {d : Due} {s : List ℕ} {x : Reading} → First b d → Rest d s x → Reads (b ∷ s) (later x)
+  first : {b : ℕ} {d : Due} {s : List ℕ} {x : Decoding} → First b d → Rest d s x → Reads (b ∷ s) (later x)
 
 -- the bytes due, by the definition
-abbrev pub dueAt : Due → List ℕ → Reading
+abbrev pub dueAt : Due → List ℕ → Decoding
 dueAt d s = due (lowest d) (highest d) (suc (more d)) s
 
 module _ (lo hi n b : ℕ) (s : List ℕ) where
@@ -114,7 +111,7 @@ Under [] b = Unit {0}
 Under (r ∷ rs) b = (b < r .low) × Under rs b
 
 -- what is due after a first byte of the row
-abbrev pub afterRow : Row → List ℕ → Reading
+abbrev pub afterRow : Row → List ℕ → Decoding
 afterRow r s = due (r .second-low) (r .second-high) (r .bytes - 1) s
 
 abbrev pub rowAt : List Row → ℕ → Row
@@ -123,48 +120,48 @@ rowAt rs n = getD rs n (row 0 0 0 0 0)
 module _ (b : ℕ) (s : List ℕ) where
   pub row-hit :
       (n : ℕ) (rs : List Row) → n < length rs → rowAt rs n .low ≤ b → b ≤ rowAt rs n .high →
-      readBy (drop n rs) (b ∷ s) ≡ later (afterRow (rowAt rs n) s)
-  unfolding readBy
+      decodeBy (drop n rs) (b ∷ s) ≡ later (afterRow (rowAt rs n) s)
+  unfolding decodeBy
   row-hit n [] h l u = absurd (omega arith)
-  row-hit zero (r ∷ rs) h l u = rw (inside (r .low) (r .high) b l u, readBy)
+  row-hit zero (r ∷ rs) h l u = rw (inside (r .low) (r .high) b l u, decodeBy)
   row-hit (suc n) (r ∷ rs) h l u = row-hit n rs (omega arith) l u
 
-  pass : (n : ℕ) (rs : List Row) → Above (take n rs) b → readBy rs (b ∷ s) ≡ readBy (drop n rs) (b ∷ s)
-  unfolding readBy
+  pass : (n : ℕ) (rs : List Row) → Above (take n rs) b → decodeBy rs (b ∷ s) ≡ decodeBy (drop n rs) (b ∷ s)
+  unfolding decodeBy
   pass zero rs a = refl
   pass (suc n) [] a = refl
-  pass (suc n) (r ∷ rs) a = rw (beyond (r .low) (r .high) b (a .0), readBy) (pass n rs (a .1))
+  pass (suc n) (r ∷ rs) a = rw (beyond (r .low) (r .high) b (a .0), decodeBy) (pass n rs (a .1))
 
-  none : (rs : List Row) → Under rs b → readBy rs (b ∷ s) ≡ wrong 0
-  unfolding readBy
+  none : (rs : List Row) → Under rs b → decodeBy rs (b ∷ s) ≡ wrong 0
+  unfolding decodeBy
   none [] u = refl
-  none (r ∷ rs) u = rw (beneath (r .low) (r .high) b (u .0), readBy) (none rs (u .1))
+  none (r ∷ rs) u = rw (beneath (r .low) (r .high) b (u .0), decodeBy) (none rs (u .1))
 
   at-row :
       (n : ℕ) → n < 8 → Above (take n wideRows) b → rowAt wideRows n .low ≤ b → b ≤ rowAt wideRows n .high →
-      reading (b ∷ s) ≡ later (afterRow (rowAt wideRows n) s)
-  unfolding reading
+      decoding (b ∷ s) ≡ later (afterRow (rowAt wideRows n) s)
+  unfolding decoding
   at-row n h a l u = pass n wideRows a ∙ row-hit n wideRows h l u
 
 -- a first byte is read by its row
-pub first-reading : {b : ℕ} {d : Due} → First b d → (s : List ℕ) → reading (b ∷ s) ≡ later (dueAt d s)
+pub first-decoding : {b : ℕ} {d : Due} → First b d → (s : List ℕ) → decoding (b ∷ s) ≡ later (dueAt d s)
 unfolding rows
-first-reading {b} (in-c2-df l h) s = at-row b s 0 (omega arith) tt l h
-first-reading {b} (in-e0 l h) s = at-row b s 1 (omega arith) (omega arith) l h
-first-reading {b} (in-e1-ec l h) s = at-row b s 2 (omega arith) (omega arith) l h
-first-reading {b} (in-ed l h) s = at-row b s 3 (omega arith) (omega arith) l h
-first-reading {b} (in-ee-ef l h) s = at-row b s 4 (omega arith) (omega arith) l h
-first-reading {b} (in-f0 l h) s = at-row b s 5 (omega arith) (omega arith) l h
-first-reading {b} (in-f1-f3 l h) s = at-row b s 6 (omega arith) (omega arith) l h
-first-reading {b} (in-f4 l h) s = at-row b s 7 (omega arith) (omega arith) l h
+first-decoding {b} (in-c2-df l h) s = at-row b s 0 (omega arith) tt l h
+first-decoding {b} (in-e0 l h) s = at-row b s 1 (omega arith) (omega arith) l h
+first-decoding {b} (in-e1-ec l h) s = at-row b s 2 (omega arith) (omega arith) l h
+first-decoding {b} (in-ed l h) s = at-row b s 3 (omega arith) (omega arith) l h
+first-decoding {b} (in-ee-ef l h) s = at-row b s 4 (omega arith) (omega arith) l h
+first-decoding {b} (in-f0 l h) s = at-row b s 5 (omega arith) (omega arith) l h
+first-decoding {b} (in-f1-f3 l h) s = at-row b s 6 (omega arith) (omega arith) l h
+first-decoding {b} (in-f4 l h) s = at-row b s 7 (omega arith) (omega arith) l h
 
-pub too-low-reading : (b : ℕ) (s : List ℕ) → b < 0xC2 → reading (b ∷ s) ≡ wrong 0
-unfolding reading
-too-low-reading b s h = none b s wideRows (omega arith)
+pub too-low-decoding : (b : ℕ) (s : List ℕ) → b < 0xC2 → decoding (b ∷ s) ≡ wrong 0
+unfolding decoding
+too-low-decoding b s h = none b s wideRows (omega arith)
 
-pub too-high-reading : (b : ℕ) (s : List ℕ) → 0xF4 < b → reading (b ∷ s) ≡ wrong 0
-unfolding reading
-too-high-reading b s h = pass b s 8 wideRows (omega arith)
+pub too-high-decoding : (b : ℕ) (s : List ℕ) → 0xF4 < b → decoding (b ∷ s) ≡ wrong 0
+unfolding decoding
+too-high-decoding b s h = pass b s 8 wideRows (omega arith)
 
 -- the bytes due are read as the definition says
 pub next-reads :
@@ -238,18 +235,18 @@ first-of b l h = df (at-most b 0xDF)
     df (inr e) = e0 e (at-most b 0xE0)
 
 -- every text is read so
-pub reads : (s : List ℕ) → Reads s (reading s)
-unfolding reading
+pub reads : (s : List ℕ) → Reads s (decoding s)
+unfolding decoding
 reads [] = empty
 reads (b ∷ s) = low (at-most b 0xC1)
   where
-    known : (d : Due) × First b d → Reads (b ∷ s) (reading (b ∷ s))
-    known f = rw (first-reading (f .1) s) (first (f .1) (rest (f .0) s))
+    known : (d : Due) × First b d → Reads (b ∷ s) (decoding (b ∷ s))
+    known f = rw (first-decoding (f .1) s) (first (f .1) (rest (f .0) s))
 
-    high : 0xC1 < b → (b ≤ 0xF4) ⊎ (0xF4 < b) → Reads (b ∷ s) (reading (b ∷ s))
+    high : 0xC1 < b → (b ≤ 0xF4) ⊎ (0xF4 < b) → Reads (b ∷ s) (decoding (b ∷ s))
     high g (inl e) = known (first-of b g e)
-    high g (inr e) = rw (too-high-reading b s e) (too-high e)
+    high g (inr e) = rw (too-high-decoding b s e) (too-high e)
 
-    low : (b ≤ 0xC1) ⊎ (0xC1 < b) → Reads (b ∷ s) (reading (b ∷ s))
-    low (inl e) = let h : b < 0xC2 = omega arith in rw (too-low-reading b s h) (too-low h)
+    low : (b ≤ 0xC1) ⊎ (0xC1 < b) → Reads (b ∷ s) (decoding (b ∷ s))
+    low (inl e) = let h : b < 0xC2 = omega arith in rw (too-low-decoding b s h) (too-low h)
     low (inr e) = high e (at-most b 0xF4)

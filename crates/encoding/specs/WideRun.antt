@@ -5,7 +5,7 @@ use mathlib.Core.Bool.{Bool, true, false}
 use Prim.Native.Nat.{ℕ, _≤_, _<_}
 use native.Mathlib.Omega.{arith}
 use lib.ListN.{length, getD}
-use Rattle.encoding.specs.CodePoint.{reading, Scanned}
+use Rattle.encoding.specs.CodePoint.{decoding, Scanned}
 use Rattle.encoding.specs.Utf8At.{reads-at, scanned-moved}
 
 -- a byte from 80 on stands at place i
@@ -18,11 +18,11 @@ pub record WideAt (s : List ℕ) (i : ℕ) : Type 0 where
 pub data WideRun (s : List ℕ) : ℕ → Bool → ℕ → Type 0 where
   over : {i : ℕ} → length s ≤ i → WideRun s i true i
   narrow : {i : ℕ} → getD s i 0 < 0x80 → WideRun s i true i
-  broken : {i r : ℕ} → WideAt s i → Scanned reading s i false r → WideRun s i false r
-  more : {i j : ℕ} {ok : Bool} {r : ℕ} → WideAt s i → Scanned reading s i true j → WideRun s j ok r → WideRun s i ok r
+  broken : {i r : ℕ} → WideAt s i → Scanned decoding s i false r → WideRun s i false r
+  more : {i j : ℕ} {ok : Bool} {r : ℕ} → WideAt s i → Scanned decoding s i true j → WideRun s j ok r → WideRun s i ok r
 
 -- a code point goes forward
-point-moved : {s : List ℕ} {i j : ℕ} → Scanned reading s i true j → i < j
+point-moved : {s : List ℕ} {i j : ℕ} → Scanned decoding s i true j → i < j
 point-moved p = scanned-moved (reads-at p) refl
 
 -- the run does not go back

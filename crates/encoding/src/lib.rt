@@ -4,7 +4,7 @@ ghost use Prim.Native.Nat.{_≤_, _<_};
 ghost use lib.ListN.{length, getD};
 ghost use Rattle.encoding.specs.Class.{classOf};
 ghost use Rattle.encoding.specs.ClassTable.{ClassTable};
-ghost use Rattle.encoding.specs.CodePoint.{due, reading, Scanned};
+ghost use Rattle.encoding.specs.CodePoint.{due, decoding, Scanned};
 ghost use Rattle.encoding.specs.RowTable.{RowTable, RowIs, RowOf};
 ghost use Rattle.encoding.specs.WideRun.{WideRun};
 
@@ -151,7 +151,7 @@ fn rest_of(s: &[u8], from: usize, low: u8, high: u8, count: u8) -> Scan
 // Reads a code point at `at` by row number `row`, which has the byte there as a first byte.
 fn after_row(rows: &[u8; 45], s: &[u8], at: usize, row: usize) -> Scan
     requires { ⌜ RowTable (now rows) × (at < length (now s)) × RowOf (getD (now s) at 0) row × (row < 9) ⌝ }
-    ensures { λ r. ⌜ Scanned reading (now (s .entry)) at (r .ok) (r .at) ⌝ }
+    ensures { λ r. ⌜ Scanned decoding (now (s .entry)) at (r .ok) (r .at) ⌝ }
 {
     let low = rows[row * ROW_SIZE + SECOND_LOW];
     let high = rows[row * ROW_SIZE + SECOND_HIGH];
@@ -162,7 +162,7 @@ fn after_row(rows: &[u8; 45], s: &[u8], at: usize, row: usize) -> Scan
 // Reads one code point from 80 (hexadecimal) on at `at`, by the rows of UTF-8. Any byte may stand there.
 pub fn code_point(rows: &[u8; 45], s: &[u8], at: usize) -> Scan
     requires { ⌜ RowTable (now rows) ⌝ }
-    ensures { λ r. ⌜ Scanned reading (now (s .entry)) at (r .ok) (r .at) ⌝ }
+    ensures { λ r. ⌜ Scanned decoding (now (s .entry)) at (r .ok) (r .at) ⌝ }
 {
     if at >= s.len() {
         return Scan { ok: false, at };

@@ -9,7 +9,8 @@ use lib.ListN.{length, take, drop}
 use Rattle.encoding.specs.Verdict.{Verdict}
 use Rattle.json.specs.Append.{length-text}
 use Rattle.json.specs.Grammar.{Tree}
-use Rattle.json.specs.Verdict.{RecordSays, recordVerdict, recordSays}
+use Rattle.json.specs.Verdict.{RecordSays, recordVerdict}
+use Rattle.json.specs.Says.{recordSays}
 use Rattle.json.specs.Verdict as J
 use Rattle.select.specs.Nodes.{IsNode, size, endOf, root}
 use Rattle.select.specs.Order.{first-before-end, below-within}

@@ -8,7 +8,7 @@ use native.Mathlib.Nat.{le-max-left, le-max-right, le-trans}
 use native.Mathlib.Omega.{arith}
 use lib.ListN.{length, drop}
 use Rattle.encoding.specs.Bytes.{Blanks, putBlanks}
-use Rattle.json.specs.Append.{length-blanks}
+use Rattle.encoding.specs.BytesLaws.{length-blanks}
 use Rattle.json.specs.Grammar as G
 use Rattle.json.specs.Grammar.{Kind, Key, Value, Items, More, closing, putKey, putValue, putItems, putMore, nesting, itemsNesting, moreNesting}
 use Rattle.select.specs.Nodes.{size, keySize, labelOf}

@@ -1,28 +1,30 @@
 -- The machine accepts the text of every tree that has room, and every control state can be completed to a text.
--- Stated as transfer: what is accepted from the state after a part is accepted, with the part before it, from the state before.
+-- Stated as transfer: what is accepted from the state after a part is accepted, with the part before it, from the state before. Assumes nothing.
 use mathlib.Core.Path.{_≡_, refl, sym, subst}
 use mathlib.Core.List.{List, [], _∷_, _++_}
 use mathlib.Core.Bool.{Bool, true, false}
 use mathlib.Core.Option.{some}
-use Prim.Native.Nat.{ℕ, zero, suc, _≤_}
+use Prim.Native.Nat.{ℕ, zero, suc}
 use native.Mathlib.Omega.{arith}
 use lib.Dec.{T}
 use Rattle.encoding.specs.Bytes.{In, putIn, Blank, Blanks, blankByte, putBlanks}
 use Rattle.encoding.specs.Utf8 as U
-use Rattle.encoding.specs.Utf8.{Wide, putWide}
+use Rattle.encoding.specs.Utf8.{Wide, putWide, Second, anyTail, afterE0, afterED, afterF0, afterF4, secondLow}
+use Rattle.encoding.specs.Utf8Laws.{second-some}
 use Rattle.json.specs.Grammar as G
 use Rattle.json.specs.Grammar.{Digit, Int, Frac, Exp, ExpSign, E, eByte, Escape, escapeByte, Hex, hexByte, Char, Minus}
 use Rattle.json.specs.Grammar.{Literal, Kind, array, object, opening, closing, Key, Value, Items, More, Tree}
 use Rattle.json.specs.Grammar.{putLiteral, putInt, putFrac, putExp, putExpSign, putMinus, putChar, putChars, putString}
 use Rattle.json.specs.Grammar.{putKey, putValue, putItems, putMore, text, nesting, itemsNesting, moreNesting}
-use Rattle.json.specs.Room.{Room, left, endless, Fits, Within, wider, Texts, fits-left, fits-right, fits-less}
-use Rattle.json.specs.Machine.{Second, anyTail, afterE0, afterED, afterF0, afterF4, secondLow, secondHigh, Ctl}
+use Rattle.json.specs.Room.{Room, left, endless, wider}
+use Rattle.json.specs.RoomLaws.{Fits, Within, Texts, fits-left, fits-right, fits-less}
+use Rattle.json.specs.Machine.{Ctl}
 use Rattle.json.specs.Machine.{item, colon, after, inString, escaping, hexDue, tailDue, wordDue, afterMinus}
 use Rattle.json.specs.Machine.{afterZero, inInt, afterPoint, inFrac, afterE, afterSign, inExp, valueDue}
 use Rattle.json.specs.Machine.{Stack, top, State, dead, at, entered, Rule, one, span, lowest, highest, takes, afterRules}
 use Rattle.json.specs.Machine.{exponentRules, hexRules, closed, rules, pick, step, run, final, accept, start}
-use Rattle.json.specs.Steps.{pick-later, takes-between, landing, lands, step-in, step-by, inside, item-blank}
-use Rattle.json.specs.Steps.{item-open, item-close, colon-blank, after-blank, after-comma, after-close}
+use Rattle.json.specs.MachineLaws.{pick-later, takes-between, landing, lands, step-in, step-by, inside, item-blank}
+use Rattle.json.specs.MachineLaws.{item-open, item-close, colon-blank, after-blank, after-comma, after-close}
 
 -- s completes a text from the state
 abbrev pub Accepts : State → List ℕ → Type 0
@@ -371,13 +373,6 @@ finish-hex (suc n) f k ρ r = let q = finish-hex n f k ρ r in (0x30 ∷ q .0, q
 
 finish-byte : (c c′ : Ctl) (k : Stack) (ρ : Room) (b : ℕ) → step (at c k ρ) b ≡ at c′ k ρ → Finish c′ k ρ → Finish c k ρ
 finish-byte c c′ k ρ b e (w, h) = (b ∷ w, step-on (at c k ρ) b w (at c′ k ρ) e h)
-
-second-some : (p : Second) → secondLow p ≤ secondHigh p
-second-some anyTail = omega arith
-second-some afterE0 = omega arith
-second-some afterED = omega arith
-second-some afterF0 = omega arith
-second-some afterF4 = omega arith
 
 finish-tail : (n : ℕ) (p : Second) (f : Bool) (k : Stack) (ρ : Room) → Finish (inString f) k ρ → Finish (tailDue p n f) k ρ
 finish-tail zero p f k ρ r =

@@ -1,4 +1,4 @@
--- What a stretch of the text does to the verdict, in every container and every room.
+-- What a stretch of the text does to the verdict, in every container and every room. Assumes nothing.
 use mathlib.Core.Path.{_≡_, refl, _∙_}
 use mathlib.Core.List.{List}
 use mathlib.Core.Bool.{Bool, true, false}
@@ -8,7 +8,7 @@ use lib.ListN.{length, getD}
 use Rattle.encoding.specs.Verdict.{Verdict, refused}
 use Rattle.json.specs.Room.{Room, endless}
 use Rattle.json.specs.Machine.{Ctl, Stack, dead, at, step, final}
-use Rattle.json.specs.Check.{here, go-at, die-at, end-at, same-at, end-same, skip}
+use Rattle.json.specs.CheckLaws.{here, go-at, die-at, end-at, same-at, end-same, skip}
 
 -- the verdict goes on from the control state d at place r, or is ground 5 there
 unfoldable pub outcome : Bool → List ℕ → Ctl → Stack → Room → ℕ → Verdict

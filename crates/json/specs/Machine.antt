@@ -4,26 +4,9 @@ use mathlib.Core.Bool.{Bool, true, false, _&&_}
 use mathlib.Core.Option.{Option, some, none}
 use Prim.Native.Nat.{ℕ, zero, suc}
 use lib.Dec.{leb}
+use Rattle.encoding.specs.Utf8.{Second, anyTail, afterE0, afterED, afterF0, afterF4, secondLow, secondHigh}
 use Rattle.json.specs.Grammar.{Kind, array, object, opening, closing}
 use Rattle.json.specs.Room.{Room, left, endless, wider}
-
--- what may follow the first byte of a code point from 80 (hexadecimal) on: any byte of 80-BF, or fewer after E0, ED, F0, F4
-pub data Second : Type 0 where
-  anyTail afterE0 afterED afterF0 afterF4 : Second
-
-abbrev pub secondLow : Second → ℕ
-secondLow anyTail = 0x80
-secondLow afterE0 = 0xA0
-secondLow afterED = 0x80
-secondLow afterF0 = 0x90
-secondLow afterF4 = 0x80
-
-abbrev pub secondHigh : Second → ℕ
-secondHigh anyTail = 0xBF
-secondHigh afterE0 = 0xBF
-secondHigh afterED = 0x9F
-secondHigh afterF0 = 0xBF
-secondHigh afterF4 = 0x8F
 
 -- what is due next
 pub data Ctl : Type 0 where
@@ -167,12 +150,6 @@ unfoldable pub run : State → List ℕ → State
 unfolding step
 run st [] = st
 run st (b ∷ s) = run (step st b) s
-
--- how many bytes the machine takes before it is dead
-unfoldable pub place : State → List ℕ → ℕ
-unfolding step
-place st [] = 0
-place st (b ∷ s) = elim (step st b) [ dead ↦ 0 | at c k ρ ↦ suc (place (at c k ρ) s) ]
 
 -- where a value may be at its end
 abbrev pub final : Ctl → Bool

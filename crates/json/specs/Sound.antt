@@ -1,5 +1,5 @@
 -- What the machine accepts is the text of a tree that has room.
--- `Rest c k ρ s`: s completes a text from the control state c with the stack k and the room ρ; each rule leads back into it.
+-- `Rest c k ρ s`: s completes a text from the control state c with the stack k and the room ρ; each rule leads back into it. Assumes nothing.
 use mathlib.Core.Path.{_≡_, refl}
 use mathlib.Core.List.{List, [], _∷_, _++_}
 use mathlib.Core.Bool.{Bool, true, false, _&&_, and-eq-true-iff}
@@ -9,13 +9,17 @@ use lib.Dec.{T, leb}
 use borrow.Author.Tests.{leb-true}
 use Rattle.encoding.specs.Bytes as B
 use Rattle.encoding.specs.Bytes.{In, putIn, Blank, Blanks, blankByte, putBlanks}
+use Rattle.encoding.specs.BytesLaws.{Then, then}
 use Rattle.encoding.specs.Utf8 as U
+use Rattle.encoding.specs.Utf8.{anyTail, afterE0, afterED, afterF0, afterF4, secondLow, secondHigh}
+use Rattle.encoding.specs.Utf8Laws.{Tails}
 use Rattle.json.specs.Grammar as G
 use Rattle.json.specs.Grammar.{Digit, Int, Frac, Exp, ExpSign, E, eByte, Escape, escapeByte, Hex, hexByte}
 use Rattle.json.specs.Grammar.{Char, Kind, array, object, opening, closing, Key, Value, More}
 use Rattle.json.specs.Grammar.{putInt, putFrac, putExp, putExpSign, putChars, putKey, putValue, putMore, text, nesting, moreNesting}
-use Rattle.json.specs.Room.{Room, left, endless, Fits, Within, wider, Texts, fits-nothing, fits-max, fits-more}
-use Rattle.json.specs.Machine.{anyTail, afterE0, afterED, afterF0, afterF4, secondLow, secondHigh, Ctl, item}
+use Rattle.json.specs.Room.{Room, left, endless, wider}
+use Rattle.json.specs.RoomLaws.{Fits, Within, Texts, fits-nothing, fits-max, fits-more}
+use Rattle.json.specs.Machine.{Ctl, item}
 use Rattle.json.specs.Machine.{colon, after, inString, escaping, hexDue, tailDue, wordDue, afterMinus}
 use Rattle.json.specs.Machine.{afterZero, inInt, afterPoint, inFrac, afterE, afterSign, inExp}
 use Rattle.json.specs.Machine.{Stack, top, pop, State, dead, at, entered, Rule, one, span, opens, closes, apply, closeRules}
@@ -44,10 +48,6 @@ ClosedRest k ρ false s = After k ρ s
 data StringRest (k : Stack) (ρ : Room) (f : Bool) : List ℕ → Type 0 where
   chars : (u : List ℕ) (cs : List Char) → ClosedRest k ρ f u → StringRest k ρ f (putChars cs (0x22 ∷ u))
 
--- a byte of a range, and then L
-data Then (lo hi : ℕ) (L : List ℕ → Type 0) : List ℕ → Type 0 where
-  then : {s : List ℕ} (b : In lo hi) → L s → Then lo hi L (b .byte ∷ s)
-
 data ThenHex (L : List ℕ → Type 0) : List ℕ → Type 0 where
   thenHex : {s : List ℕ} (h : Hex) → L s → ThenHex L (hexByte h ∷ s)
 
@@ -55,11 +55,6 @@ data ThenHex (L : List ℕ → Type 0) : List ℕ → Type 0 where
 abbrev Hexes : ℕ → (List ℕ → Type 0) → List ℕ → Type 0
 Hexes zero L = ThenHex L
 Hexes (suc n) L = ThenHex (Hexes n L)
-
--- n bytes of 80-BF, and then L
-abbrev Tails : ℕ → (List ℕ → Type 0) → List ℕ → Type 0
-Tails zero L = L
-Tails (suc n) L = Then 0x80 0xBF (Tails n L)
 
 data EscapeRest (k : Stack) (ρ : Room) (f : Bool) : List ℕ → Type 0 where
   simple : {s : List ℕ} (x : Escape) → StringRest k ρ f s → EscapeRest k ρ f (escapeByte x ∷ s)
@@ -505,28 +500,28 @@ unfolding putBlanks
 done-after [] ρ e = over []
 done-after (x ∷ k) ρ e = absurd (so e)
 
-done : (c : Ctl) (k : Stack) (ρ : Room) → final c && isEmpty k ≡ true → Rest c k ρ []
-done (item x f) k ρ e = absurd (so e)
-done colon k ρ e = absurd (so e)
-done after k ρ e = done-after k ρ e
-done (inString f) k ρ e = absurd (so e)
-done (escaping f) k ρ e = absurd (so e)
-done (hexDue n f) k ρ e = absurd (so e)
-done (tailDue p n f) k ρ e = absurd (so e)
-done (wordDue b bs) k ρ e = absurd (so e)
-done afterMinus k ρ e = absurd (so e)
-done afterZero k ρ e = zero-over [] (done-after k ρ e)
-done inInt k ρ e = int-over [] (zero-over [] (done-after k ρ e))
-done afterPoint k ρ e = absurd (so e)
-done inFrac k ρ e = frac-over [] (done-after k ρ e)
-done afterE k ρ e = absurd (so e)
-done afterSign k ρ e = absurd (so e)
-done inExp k ρ e = exp-over [] (done-after k ρ e)
+done : (c : Ctl) (k : Stack) (ρ : Room) → final c ≡ true → isEmpty k ≡ true → Rest c k ρ []
+done (item x o) k ρ f e = absurd (so f)
+done colon k ρ f e = absurd (so f)
+done after k ρ f e = done-after k ρ e
+done (inString o) k ρ f e = absurd (so f)
+done (escaping o) k ρ f e = absurd (so f)
+done (hexDue n o) k ρ f e = absurd (so f)
+done (tailDue p n o) k ρ f e = absurd (so f)
+done (wordDue b bs) k ρ f e = absurd (so f)
+done afterMinus k ρ f e = absurd (so f)
+done afterZero k ρ f e = zero-over [] (done-after k ρ e)
+done inInt k ρ f e = int-over [] (zero-over [] (done-after k ρ e))
+done afterPoint k ρ f e = absurd (so f)
+done inFrac k ρ f e = frac-over [] (done-after k ρ e)
+done afterE k ρ f e = absurd (so f)
+done afterSign k ρ f e = absurd (so f)
+done inExp k ρ f e = exp-over [] (done-after k ρ e)
 
 rest : (st : State) (s : List ℕ) → accept (run st s) ≡ true → RestOf st s
 unfolding run
 rest dead [] e = absurd (so e)
-rest (at c k ρ) [] e = done c k ρ e
+rest (at c k ρ) [] e = let q = and-eq-true-iff (final c) (isEmpty k) .0 e in done c k ρ (q .0) (q .1)
 rest st (b ∷ s) e = back-step st b s (rest (step st b) s e)
 
 text-of : (ρ : Room) (s : List ℕ) → ItemRest [] ρ array false s → Texts ρ s

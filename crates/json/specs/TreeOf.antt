@@ -1,277 +1,58 @@
--- The tree of a text, computed: `treeOf` undoes `text`, so a JSON text has exactly one tree.
-use mathlib.Core.Path.{_≡_, refl, ap, sym, _∙_}
+-- The tree of a text, computed: the parsers of values, and with them of the whole text.
 use mathlib.Core.List.{List, [], _∷_}
-use mathlib.Core.Bool.{Bool, true, false, _&&_, false≢true, and-eq-true-iff}
-use mathlib.Core.Option.{Option, some, none, Option·none-ne-some}
+use mathlib.Core.Bool.{Bool, true, false}
+use mathlib.Core.Option.{Option, some, none}
 use Prim.Native.Nat as N
-use Prim.Native.Nat.{ℕ, suc, _≤_}
-use native.Mathlib.Omega.{arith}
-use lib.Dec.{eqb}
+use Prim.Native.Nat.{ℕ, suc}
 use lib.ListN.{length}
-use borrow.Author.Tests.{eqb-true, eq-eqb}
-use Rattle.encoding.specs.Bytes as B
-use Rattle.encoding.specs.Bytes.{In, putIn, Blanks, putBlanks}
+use Rattle.encoding.specs.Bytes.{sameBytes}
 use Rattle.json.specs.Grammar as G
-use Rattle.json.specs.Grammar.{Literal, Minus, Int, Char, Kind, Key, opening, closing, Value, Items, More, Tree, JsonText}
-use Rattle.json.specs.Grammar.{putLiteral, putMinus, putInt, putFrac, putExp, putString, putKey, putValue, putItems, putMore, text}
-use Rattle.json.specs.Append.{length-blanks, length-key, length-value, value-positive, length-more, more-positive}
-use Rattle.json.specs.Read.{Got, Reader, got, fail, on, on-got, in-bounds, bounded, only, choose, pick, allApart, readBy, by-other, by-only}
-use Rattle.json.specs.Read.{readIn, readByte, readBytes, many, blankOf, readBlanks}
-use Rattle.json.specs.Read.{blanks-read, Solid, solid-in, digitOf, readDigits, readSomeDigits}
-use Rattle.json.specs.Read.{readMinus, readInt, readFrac, readExpSign, readPower, readExp, readNumber, NumberEnd, number-read}
-use Rattle.json.specs.Read.{readHex, readUnicode, readEscape, charCases, readChars, readRest, rest-read, readColon, readKey, key-read}
+use Rattle.json.specs.Grammar.{Kind, Key, closing, Value, Items, More, Tree, text}
+use Rattle.json.specs.Parse.{Got, Parser, got, fail, on, only, choose, pick, parseBy, parseIn, parseByte, parseBytes, many, blankOf, parseBlanks}
+use Rattle.json.specs.Parse.{digitOf, parseDigits, parseSomeDigits, parseMinus, parseInt, parseFrac, parseExpSign, parsePower, parseExp, parseNumber}
+use Rattle.json.specs.Parse.{parseHex, parseUnicode, parseEscape, charCases, parseChars, parseRest, parseColon, parseKey}
 
--- readers for values and for what follows an item
-pub record Readers : Type 0 where
-  pub value : Reader Value
-  pub more : (k : Kind) → Reader (More k)
+-- parsers for values and for what follows an item
+pub record Parsers : Type 0 where
+  pub value : Parser Value
+  pub more : (k : Kind) → Parser (More k)
 
-unfoldable pub readItem : {A : Type 0} → Readers → (k : Kind) → (Key k → Value → More k → A) → Reader A
-readItem r k f = readKey k (λ key s. on (r .value s) (λ v u. on (r .more k u) (λ m. got (f key v m))))
+unfoldable pub parseItem : {A : Type 0} → Parsers → (k : Kind) → (Key k → Value → More k → A) → Parser A
+parseItem r k f = parseKey k (λ key s. on (r .value s) (λ v u. on (r .more k u) (λ m. got (f key v m))))
 
-unfoldable pub readItems : Readers → (k : Kind) → Reader (Items k)
-readItems r k = readBlanks (λ w. readBy (only (closing k) (got (G.empty w)) ∷ []) (readItem r k (G.items w)))
+unfoldable pub parseItems : Parsers → (k : Kind) → Parser (Items k)
+parseItems r k = parseBlanks (λ w. parseBy (only (closing k) (got (G.empty w)) ∷ []) (parseItem r k (G.items w)))
 
-unfoldable pub readMore : Readers → (k : Kind) → Reader (More k)
-readMore r k = readBlanks (λ w. readBy (only (closing k) (got (G.end w)) ∷ only 0x2C (readBlanks (λ w′. readItem r k (G.more w w′))) ∷ []) fail)
+unfoldable pub parseMore : Parsers → (k : Kind) → Parser (More k)
+parseMore r k = parseBlanks (λ w. parseBy (only (closing k) (got (G.end w)) ∷ only 0x2C (parseBlanks (λ w′. parseItem r k (G.more w w′))) ∷ []) fail)
 
-unfoldable pub readContainer : Readers → Kind → Reader Value
-readContainer r k s = on (readItems r k s) (λ is. got (G.container k is))
+unfoldable pub parseContainer : Parsers → Kind → Parser Value
+parseContainer r k s = on (parseItems r k s) (λ is. got (G.container k is))
 
-unfoldable pub readValue : Readers → Reader Value
-readValue r =
-    readBy
-    (only 0x22 (readRest (λ cs. got (G.string cs))) ∷
-    only 0x5B (readContainer r G.array) ∷
-    only 0x7B (readContainer r G.object) ∷
-    only 0x66 (readBytes (0x61 ∷ 0x6C ∷ 0x73 ∷ 0x65 ∷ []) (got (G.literal G.falseName))) ∷
-    only 0x6E (readBytes (0x75 ∷ 0x6C ∷ 0x6C ∷ []) (got (G.literal G.nullName))) ∷
-    only 0x74 (readBytes (0x72 ∷ 0x75 ∷ 0x65 ∷ []) (got (G.literal G.trueName))) ∷ [])
-    readNumber
+unfoldable pub parseValue : Parsers → Parser Value
+parseValue r =
+    parseBy
+    (only 0x22 (parseRest (λ cs. got (G.string cs))) ∷
+    only 0x5B (parseContainer r G.array) ∷
+    only 0x7B (parseContainer r G.object) ∷
+    only 0x66 (parseBytes (0x61 ∷ 0x6C ∷ 0x73 ∷ 0x65 ∷ []) (got (G.literal G.falseName))) ∷
+    only 0x6E (parseBytes (0x75 ∷ 0x6C ∷ 0x6C ∷ []) (got (G.literal G.nullName))) ∷
+    only 0x74 (parseBytes (0x72 ∷ 0x75 ∷ 0x65 ∷ []) (got (G.literal G.trueName))) ∷ [])
+    parseNumber
 
--- readers whose calls go at most n deep
-unfoldable pub readers : ℕ → Readers
-readers N.zero = record { value = fail; more = λ k. fail }
-readers (suc n) = record { value = readValue (readers n); more = readMore (readers n) }
-
--- s begins with a byte from lo to hi
-record Begins (lo hi : ℕ) (s : List ℕ) : Type 0 where
-  pub first : In lo hi
-  pub behind : List ℕ
-  pub is : s ≡ first .byte ∷ behind
-
-number-begins : (g : Minus) (n : Int) (s : List ℕ) → Begins 0x2D 0x39 (putMinus g (putInt n s))
-unfolding putMinus putInt
-number-begins G.minus n s = record { first = record { byte = 0x2D; ok = tt }; behind = putInt n s; is = refl }
-number-begins G.unsigned G.nought s = record { first = record { byte = 0x30; ok = tt }; behind = s; is = refl }
-number-begins G.unsigned (G.whole d ds) s =
-    let b = in-bounds d in
-    record { first = record { byte = d .byte; ok = bounded 0x2D 0x39 (d .byte) (omega arith) (omega arith) }; behind = putIn ds s; is = refl }
-
--- s begins with no blank and with no closing bracket, as an item does
-record ItemStart (k : Kind) (s : List ℕ) : Type 0 where
-  pub solid : Solid s
-  pub unclosed : (r other : Reader (Items k)) → readBy (only (closing k) r ∷ []) other s ≡ other s
-
-value-start : (v : Value) (u : List ℕ) → ItemStart G.array (putValue v u)
-unfolding putValue putLiteral putString many blankOf readBy pick choose allApart
-value-start (G.literal G.falseName) u = record { solid = refl; unclosed = λ r other. refl }
-value-start (G.literal G.nullName) u = record { solid = refl; unclosed = λ r other. refl }
-value-start (G.literal G.trueName) u = record { solid = refl; unclosed = λ r other. refl }
-value-start (G.number g n f e) u = number (number-begins g n (putFrac f (putExp e u)))
-  where
-    number : {s : List ℕ} → Begins 0x2D 0x39 s → ItemStart G.array s
-    number b =
-        rw
-        (b .is)
-        (record {
-          solid = solid-in (b .first) (b .behind) refl;
-          unclosed = λ r other. by-other (b .first) (only 0x5D r ∷ []) other (b .behind) refl;
-        })
-value-start (G.string cs) u = record { solid = refl; unclosed = λ r other. refl }
-value-start (G.container G.array is) u = record { solid = refl; unclosed = λ r other. refl }
-value-start (G.container G.object is) u = record { solid = refl; unclosed = λ r other. refl }
-
-item-start : (k : Kind) (key : Key k) (v : Value) (u : List ℕ) → ItemStart k (putKey k key (putValue v u))
-unfolding putKey putString many blankOf readBy pick choose
-item-start G.array key v u = value-start v u
-item-start G.object key v u = record { solid = refl; unclosed = λ r other. refl }
-
--- what follows a value begins with a blank, a closing bracket or a comma
-closing-end : (k : Kind) (u : List ℕ) → NumberEnd (closing k ∷ u)
-unfolding many digitOf readFrac readExp readBy pick choose
-closing-end G.array u = record { digits = refl; frac = λ f. refl; exp = λ f. refl }
-closing-end G.object u = record { digits = refl; frac = λ f. refl; exp = λ f. refl }
-
-blanks-end : (w : Blanks) (u : List ℕ) → NumberEnd u → NumberEnd (putBlanks w u)
-unfolding putBlanks many digitOf readFrac readExp readBy pick choose
-blanks-end [] u h = h
-blanks-end (B.space ∷ w) u h = record { digits = refl; frac = λ f. refl; exp = λ f. refl }
-blanks-end (B.tab ∷ w) u h = record { digits = refl; frac = λ f. refl; exp = λ f. refl }
-blanks-end (B.feed ∷ w) u h = record { digits = refl; frac = λ f. refl; exp = λ f. refl }
-blanks-end (B.return ∷ w) u h = record { digits = refl; frac = λ f. refl; exp = λ f. refl }
-
-more-end : {k : Kind} (m : More k) (u : List ℕ) → NumberEnd (putMore m u)
-unfolding putMore many digitOf readFrac readExp readBy pick choose
-more-end {k} (G.end w) u = blanks-end w (closing k ∷ u) (closing-end k u)
-more-end (G.more w w′ key v m) u = blanks-end w _ (record { digits = refl; frac = λ f. refl; exp = λ f. refl })
-
-solid-closing : (k : Kind) (u : List ℕ) → Solid (closing k ∷ u)
-unfolding many blankOf pick choose
-solid-closing G.array u = refl
-solid-closing G.object u = refl
-
-solid-comma : (u : List ℕ) → Solid (0x2C ∷ u)
-unfolding many blankOf pick choose
-solid-comma u = refl
-
-by-comma : {A : Type 0} (k : Kind) (r c : Reader A) (u : List ℕ) → readBy (only (closing k) r ∷ only 0x2C c ∷ []) fail (0x2C ∷ u) ≡ c u
-unfolding readBy pick choose
-by-comma G.array r c u = refl
-by-comma G.object r c u = refl
-
--- where the readers read back the values inside it, and what follows them, a value is read back
-module _ (r : Readers) where
-  empty-read : (k : Kind) (w : Blanks) (u : List ℕ) → readItems r k (putBlanks w (closing k ∷ u)) ≡ got (G.empty w) u
-  unfolding readItems
-  empty-read k w u = blanks-read w _ (closing k ∷ u) (solid-closing k u) ∙ by-only (closing k) _ _ _ u
-
-  end-read : (k : Kind) (w : Blanks) (u : List ℕ) → readMore r k (putBlanks w (closing k ∷ u)) ≡ got (G.end w) u
-  unfolding readMore
-  end-read k w u = blanks-read w _ (closing k ∷ u) (solid-closing k u) ∙ by-only (closing k) _ _ _ u
-
-  number-read-by : {s : List ℕ} → Begins 0x2D 0x39 s → readValue r s ≡ readNumber s
-  unfolding readValue allApart
-  number-read-by b = rw (b .is) (by-other (b .first) _ readNumber (b .behind) refl)
-
-  literal-read : (l : Literal) (u : List ℕ) → readValue r (putLiteral l u) ≡ got (G.literal l) u
-  unfolding readValue readBytes readByte readBy pick choose putLiteral
-  literal-read G.falseName u = refl
-  literal-read G.nullName u = refl
-  literal-read G.trueName u = refl
-
-  string-read : (cs : List Char) (u : List ℕ) → readValue r (putString cs u) ≡ got (G.string cs) u
-  unfolding readValue readBy pick choose putString
-  string-read cs u = rest-read cs _ u
-
-  container-read : (k : Kind) (is : Items k) (s u : List ℕ) → readItems r k s ≡ got is u → readValue r (opening k ∷ s) ≡ got (G.container k is) u
-  unfolding readValue readContainer readBy pick choose
-  container-read G.array is s u e = on-got _ e
-  container-read G.object is s u e = on-got _ e
-
-  module _
-      (k : Kind) (key : Key k) (v : Value) (m : More k) (u : List ℕ)
-      (p : r .value (putValue v (putMore m u)) ≡ got v (putMore m u)) (q : r .more k (putMore m u) ≡ got m u)
-    where
-      item-read : {A : Type 0} (f : Key k → Value → More k → A) → readItem r k f (putKey k key (putValue v (putMore m u))) ≡ got (f key v m) u
-      unfolding readItem
-      item-read f = key-read k key _ (putValue v (putMore m u)) (value-start v (putMore m u) .solid) ∙ on-got _ p ∙ on-got _ q
-
-      items-read : (w : Blanks) → readItems r k (putItems (G.items w key v m) u) ≡ got (G.items w key v m) u
-      unfolding readItems putItems
-      items-read w =
-          let h = item-start k key v (putMore m u) in
-          blanks-read w _ _ (h .solid) ∙ h .unclosed _ _ ∙ item-read (G.items w)
-
-      more-read : (w w′ : Blanks) → readMore r k (putMore (G.more w w′ key v m) u) ≡ got (G.more w w′ key v m) u
-      unfolding readMore putMore
-      more-read w w′ =
-          let h = item-start k key v (putMore m u) in
-          blanks-read w _ _ (solid-comma _) ∙ by-comma k _ _ _ ∙ blanks-read w′ _ _ (h .solid) ∙ item-read (G.more w w′)
-
--- with n for at least the bytes that are left, what was written is read back
-
-no-value : (v : Value) (u : List ℕ) → length (putValue v u) ≤ 0 → ⊥
-no-value v u h = omega (arith, length-value v u, value-positive v)
-
-no-more : {k : Kind} (m : More k) (u : List ℕ) → length (putMore m u) ≤ 0 → ⊥
-no-more m u h = omega (arith, length-more m u, more-positive m)
-
-item-shorter : (w : Blanks) (k : Kind) (key : Key k) (v : Value) (m : More k) (u : List ℕ) →
-    (length (putValue v (putMore m u)) ≤ length (putBlanks w (putKey k key (putValue v (putMore m u))))) ×
-    (length (putMore m u) ≤ length (putBlanks w (putKey k key (putValue v (putMore m u)))))
-item-shorter w k key v m u =
-    let b = length-blanks w (putKey k key (putValue v (putMore m u))) in
-    let c = length-key k key (putValue v (putMore m u)) in
-    (omega arith, omega (arith, length-value v (putMore m u)))
-
-mutual
-  unfolding readers putValue putItems putMore
-
-  value-back : (v : Value) (n : ℕ) (u : List ℕ) → length (putValue v u) ≤ n → NumberEnd u → readers n .value (putValue v u) ≡ got v u
-  value-back (G.literal l) N.zero u h e = absurd (no-value (G.literal l) u h)
-  value-back (G.literal l) (suc n) u h e = literal-read (readers n) l u
-  value-back (G.number g i f x) N.zero u h e = absurd (no-value (G.number g i f x) u h)
-  value-back (G.number g i f x) (suc n) u h e = number-read-by (readers n) (number-begins g i (putFrac f (putExp x u))) ∙ number-read g i f x u e
-  value-back (G.string cs) N.zero u h e = absurd (no-value (G.string cs) u h)
-  value-back (G.string cs) (suc n) u h e = string-read (readers n) cs u
-  value-back (G.container k is) N.zero u h e = absurd (no-value (G.container k is) u h)
-  value-back (G.container k is) (suc n) u h e = container-read (readers n) k is (putItems is u) u (items-back is n u (omega arith))
-
-  items-back : {k : Kind} (is : Items k) (n : ℕ) (u : List ℕ) → length (putItems is u) ≤ n → readItems (readers n) k (putItems is u) ≡ got is u
-  items-back {k} (G.empty w) n u h = empty-read (readers n) k w u
-  items-back {k} (G.items w key v m) n u h =
-      let q = item-shorter w k key v m u in
-      items-read (readers n) k key v m u (value-back v n (putMore m u) (omega arith) (more-end m u)) (more-back m n u (omega arith)) w
-
-  more-back : {k : Kind} (m : More k) (n : ℕ) (u : List ℕ) → length (putMore m u) ≤ n → readers n .more k (putMore m u) ≡ got m u
-  more-back {k} (G.end w) N.zero u h = absurd (no-more {k = k} (G.end w) u h)
-  more-back {k} (G.end w) (suc n) u h = end-read (readers n) k w u
-  more-back {k} (G.more w w′ key v m) N.zero u h = absurd (no-more {k = k} (G.more w w′ key v m) u h)
-  more-back {k} (G.more w w′ key v m) (suc n) u h =
-      let b = length-blanks w (0x2C ∷ putBlanks w′ (putKey k key (putValue v (putMore m u)))) in
-      let q = item-shorter w′ k key v m u in
-      more-read (readers n) k key v m u (value-back v n (putMore m u) (omega arith) (more-end m u)) (more-back m n u (omega arith)) w w′
+-- parsers whose calls go at most n deep
+unfoldable pub parsers : ℕ → Parsers
+parsers N.zero = record { value = fail; more = λ k. fail }
+parsers (suc n) = record { value = parseValue (parsers n); more = parseMore (parsers n) }
 
 -- a whole text
-unfoldable pub readEnd : {A : Type 0} → A → Reader A
-readEnd a [] = got a []
-readEnd a (b ∷ s) = none
+unfoldable pub parseEnd : {A : Type 0} → A → Parser A
+parseEnd a [] = got a []
+parseEnd a (b ∷ s) = none
 
-unfoldable pub readTree : Reader Tree
-readTree s =
-    readBlanks (λ w z. on (readers (length s) .value z) (λ v. readBlanks (λ w′. readEnd (record { before = w; value = v; after = w′ })))) s
-
-solid-nothing : Solid []
-unfolding many
-solid-nothing = refl
-
-nothing-end : NumberEnd []
-unfolding many readFrac readExp readBy
-nothing-end = record { digits = refl; frac = λ f. refl; exp = λ f. refl }
-
-tree-back : (t : Tree) → readTree (text t) ≡ got t []
-unfolding readTree text readEnd
-tree-back t =
-    let u = putBlanks (t .after) [] in
-    let v = putValue (t .value) u in
-    let b = length-blanks (t .before) v in
-    blanks-read (t .before) _ v (value-start (t .value) u .solid)
-    ∙ on-got _ (value-back (t .value) (length (putBlanks (t .before) v)) u (omega arith) (blanks-end (t .after) [] nothing-end))
-    ∙ blanks-read (t .after) _ [] solid-nothing
-
--- the same bytes
-unfoldable pub sameBytes : List ℕ → List ℕ → Bool
-sameBytes [] [] = true
-sameBytes [] (c ∷ u) = false
-sameBytes (b ∷ s) [] = false
-sameBytes (b ∷ s) (c ∷ u) = eqb b c && sameBytes s u
-
-same-bytes : (s u : List ℕ) → sameBytes s u ≡ true → s ≡ u
-unfolding sameBytes
-same-bytes [] [] e = refl
-same-bytes [] (c ∷ u) e = absurd (false≢true e)
-same-bytes (b ∷ s) [] e = absurd (false≢true e)
-same-bytes (b ∷ s) (c ∷ u) e =
-    let h = and-eq-true-iff (eqb b c) (sameBytes s u) .0 e in
-    let p : b ≡ c = eqb-true b c (h .0) in
-    let q : s ≡ u = same-bytes s u (h .1) in
-    cc
-
-same-itself : (s : List ℕ) → sameBytes s s ≡ true
-unfolding sameBytes
-same-itself [] = refl
-same-itself (b ∷ s) = and-eq-true-iff (eqb b b) (sameBytes s s) .1 (eq-eqb b b refl, same-itself s)
+unfoldable pub parseTree : Parser Tree
+parseTree s =
+    parseBlanks (λ w z. on (parsers (length s) .value z) (λ v. parseBlanks (λ w′. parseEnd (record { before = w; value = v; after = w′ })))) s
 
 abbrev pub ifSame : Bool → Tree → Option Tree
 ifSame true t = some t
@@ -284,39 +65,8 @@ ifText s (some p) = ifSame (sameBytes (text (p .0)) s) (p .0)
 -- the tree that s is the text of
 unfoldable pub treeOf : List ℕ → Option Tree
 unfolding
-    choose pick readBy readIn readByte readBytes many blankOf readBlanks
-    digitOf readDigits readSomeDigits readMinus readInt readFrac readExpSign readPower readExp readNumber
-    readHex readUnicode readEscape charCases readChars readRest readColon readKey
-    readItem readItems readMore readContainer readValue readers readEnd readTree sameBytes text
-treeOf s = ifText s (readTree s)
-
-pub treeOf-text : (t : Tree) → treeOf (text t) ≡ some t
-unfolding treeOf
-treeOf-text t = ap (ifText (text t)) (tree-back t) ∙ ap (λ (b : Bool). ifSame b t) (same-itself (text t))
-
-pub treeOf-sound : (s : List ℕ) (t : Tree) → treeOf s ≡ some t → text t ≡ s
-unfolding treeOf
-treeOf-sound s t e = sound (readTree s) e
-  where
-    same : (u : Tree) (b : Bool) → sameBytes (text u) s ≡ b → ifSame b u ≡ some t → text t ≡ s
-    same u true h e =
-        let q : u ≡ t = cc in
-        rw (← q) (same-bytes (text u) s h)
-    same u false h e = absurd (Option·none-ne-some _ e)
-
-    sound : (o : Got Tree) → ifText s o ≡ some t → text t ≡ s
-    sound none e = absurd (Option·none-ne-some _ e)
-    sound (some p) e = same (p .0) (sameBytes (text (p .0)) s) refl e
-
--- a text has one tree
-pub unambiguous : (t t′ : Tree) → text t ≡ text t′ → t ≡ t′
-unambiguous t t′ e =
-    let z : some t ≡ some t′ = sym (treeOf-text t) ∙ ap treeOf e ∙ treeOf-text t′ in
-    cc
-
--- s is a JSON text just where it has a tree
-pub treeOf-json : {s : List ℕ} (j : JsonText s) → treeOf s ≡ some (j .tree)
-treeOf-json j = ap treeOf (sym (j .written)) ∙ treeOf-text (j .tree)
-
-pub treeOf-none : {s : List ℕ} → treeOf s ≡ none → JsonText s → ⊥
-treeOf-none e j = Option·none-ne-some _ (sym e ∙ treeOf-json j)
+    choose pick parseBy parseIn parseByte parseBytes many blankOf parseBlanks
+    digitOf parseDigits parseSomeDigits parseMinus parseInt parseFrac parseExpSign parsePower parseExp parseNumber
+    parseHex parseUnicode parseEscape charCases parseChars parseRest parseColon parseKey
+    parseItem parseItems parseMore parseContainer parseValue parsers parseEnd parseTree sameBytes text
+treeOf s = ifText s (parseTree s)

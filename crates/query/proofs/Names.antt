@@ -19,7 +19,7 @@ use Rattle.query.specs.Machine as M
 use Rattle.query.specs.Machine.{Control, done, inside, short, quoted, dead, Row, only, range, firstRows, beginRows, dotRow, pick, step}
 use Rattle.query.specs.Read.{letter, event, reading}
 use Rattle.query.specs.Spell.{spell, alike}
-use Rattle.query.specs.Rows.{miss, landing, leads, allParted, passes}
+use Rattle.query.specs.MachineLaws.{miss, landing, leads, allParted, passes}
 use Rattle.query.specs.Scans.{NameByteIs, digit, upper, underscore, lower, below-digits, below-upper, between-cases, above-lower}
 use Rattle.query.specs.Scans.{spelt, NoName, Moved, NameChar, FirstChar, ShortName, QuotedChar, QuotedName}
 use Rattle.query.proofs.At.{byte-at, end-at, stop-at}
@@ -98,11 +98,11 @@ module _ (q : List ℕ) (i : ℕ) (h : i < length q) where
   stayed : Moved q i false i
   stayed = record { within = omega arith; on = λ e. let z : _≡_ {A = ℕ} 0 1 = cc in absurd (omega arith) }
 
-  scanned-moves : {ok : Bool} {r : ℕ} → Scanned C.reading q i ok r → Moved q i ok r
+  scanned-moves : {ok : Bool} {r : ℕ} → Scanned C.decoding q i ok r → Moved q i ok r
   scanned-moves s = record { within = scanned-within s (omega arith); on = λ e. scanned-moved (reads-at s) e }
 
   -- the three answers for a character of a shorthand name
-  pub name-wide : {ok : Bool} {r : ℕ} → 0x80 ≤ getD q i 0 → Scanned C.reading q i ok r → NameChar q i ok r
+  pub name-wide : {ok : Bool} {r : ℕ} → 0x80 ≤ getD q i 0 → Scanned C.decoding q i ok r → NameChar q i ok r
   name-wide {ok} {r} w s = record {
     moved = scanned-moves s;
     first = λ d n f. wide-reads q (wide-dotted d) h w (reads-at s);
@@ -235,7 +235,7 @@ backslash-dies G.single e = rw e refl
 backslash-dies G.double e = rw e refl
 
 module _ (q : List ℕ) (i : ℕ) (h : i < length q) where
-  pub quoted-wide : {ok : Bool} {r : ℕ} → 0x80 ≤ getD q i 0 → Scanned C.reading q i ok r → QuotedChar q i ok r
+  pub quoted-wide : {ok : Bool} {r : ℕ} → 0x80 ≤ getD q i 0 → Scanned C.decoding q i ok r → QuotedChar q i ok r
   quoted-wide w s = record { moved = scanned-moves q i h s; reads = λ x f. wide-reads q (wide-quoted x) h w (reads-at s) }
 
   pub quoted-control : getD q i 0 < 0x20 → QuotedChar q i false i

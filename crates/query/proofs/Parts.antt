@@ -21,7 +21,7 @@ use Rattle.query.specs.Machine.{Control, root, done, gap, opened, closin
 use Rattle.query.specs.Machine.{beginRows, pick, step}
 use Rattle.query.specs.Read as R
 use Rattle.query.specs.Read.{begin, deepen, Placed, named, Reading, good, bad, note, reading}
-use Rattle.query.specs.Rows.{Lives, every-pick}
+use Rattle.query.specs.MachineLaws.{Lives, every-pick}
 use Rattle.query.specs.Spell as P
 use Rattle.query.specs.Spell.{spell, spell-named, done-gap}
 use Rattle.query.specs.Text.{quote-opens, quote-closes}

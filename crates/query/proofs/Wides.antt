@@ -9,16 +9,17 @@ use native.Mathlib.Omega.{arith}
 use lib.Dec.{T}
 use lib.ListN.{length, getD, drop}
 use Rattle.encoding.specs.BytesLaws as L
-use Rattle.encoding.specs.Utf8Steps as U
-use Rattle.encoding.specs.Utf8Steps.{Due, lowest, highest, First, Next}
+use Rattle.encoding.specs.Utf8.{anyTail, afterE0, afterED, afterF0, afterF4}
 use Rattle.encoding.specs.Utf8At as A
 use Rattle.encoding.specs.Utf8At.{RestAt, ReadsAt}
+use Rattle.encoding.specs.Utf8Steps as U
+use Rattle.encoding.specs.Utf8Steps.{Due, lowest, highest, First, Next}
 use Rattle.query.specs.Machine as M
-use Rattle.query.specs.Machine.{Home, anyTail, afterE0, afterED, afterF0, afterF4, Control, inside, tailDue, dead, Row, range}
+use Rattle.query.specs.Machine.{Home, Control, inside, tailDue, dead, Row, range}
 use Rattle.query.specs.Machine.{wideRows, rows, pick, step, final}
 use Rattle.query.specs.Grammar as G
 use Rattle.query.specs.Read.{letter, event, bad, reading}
-use Rattle.query.specs.Rows.{hit, miss, landing, leads, allUnder, dies-above}
+use Rattle.query.specs.MachineLaws.{hit, miss, landing, leads, allUnder, dies-above}
 use Rattle.query.specs.Scans.{spelt}
 use Rattle.query.proofs.At.{end-at, stop-at}
 use Rattle.query.proofs.Letters.{spelt-here, spelt-letter}

@@ -1,34 +1,16 @@
 -- Laws of the writers: `put x s` is the bytes of x alone and then s, so that places and lengths can be counted. Assumes nothing.
 use mathlib.Core.Path.{_≡_, refl, ap, _∙_}
 use mathlib.Core.List.{List, [], _∷_, _++_}
-use Prim.Native.Nat.{ℕ, _+_}
-use native.Mathlib.Omega.{arith}
-use lib.ListN.{length, length-append}
-use Rattle.encoding.specs.Bytes.{Blanks, blankByte, putBlanks}
-use Rattle.encoding.specs.Utf8 as U
-use Rattle.encoding.specs.Utf8.{Wide, putWide}
+use Prim.Native.Nat.{ℕ}
+use Rattle.encoding.specs.Bytes.{putBlanks}
+use Rattle.encoding.specs.BytesLaws.{append-blanks}
+use Rattle.encoding.specs.Utf8Laws.{append-wide}
 use Rattle.query.specs.Grammar as G
 use Rattle.query.specs.Grammar.{First, Later, Quote, Char, quoteByte, Short, Inner, Depth, Segment, Spaced, Query}
 use Rattle.query.specs.Grammar.{putFirst, putLater, putLaters, putChar, putChars, putShort, putInner, putDots, putDeep, putSegment}
 use Rattle.query.specs.Grammar.{putSpaced, putQuery}
 
 -- bytes appended to what stands after x are appended to the whole
-
-pub append-blanks : (w : Blanks) (s u : List ℕ) → putBlanks w (s ++ u) ≡ putBlanks w s ++ u
-unfolding putBlanks
-append-blanks [] s u = refl
-append-blanks (b ∷ w) s u = ap (λ (x : List ℕ). blankByte b ∷ x) (append-blanks w s u)
-
-pub append-wide : (p : Wide) (s u : List ℕ) → putWide p (s ++ u) ≡ putWide p s ++ u
-unfolding putWide
-append-wide (U.c2-df x y) s u = refl
-append-wide (U.e0 x y z) s u = refl
-append-wide (U.e1-ec x y z) s u = refl
-append-wide (U.ed x y z) s u = refl
-append-wide (U.ee-ef x y z) s u = refl
-append-wide (U.f0 x y z w) s u = refl
-append-wide (U.f1-f3 x y z w) s u = refl
-append-wide (U.f4 x y z w) s u = refl
 
 pub append-first : (x : First) (s u : List ℕ) → putFirst x (s ++ u) ≡ putFirst x s ++ u
 unfolding putFirst
@@ -97,13 +79,3 @@ pub append-query : (t : Query) (s u : List ℕ) → putQuery t (s ++ u) ≡ putQ
 unfolding putQuery
 append-query [] s u = refl
 append-query (x ∷ t) s u = ap (putSpaced x) (append-query t s u) ∙ append-spaced x (putQuery t s) u
-
--- the length of blanks with s after them
-pub length-blanks : (w : Blanks) (s : List ℕ) → length (putBlanks w s) ≡ length w + length s
-unfolding putBlanks
-length-blanks [] s = omega arith
-length-blanks (b ∷ w) s = omega (arith, length-blanks w s)
-
--- and so lengths add up
-pub size : (put : List ℕ → List ℕ) → ((s u : List ℕ) → put (s ++ u) ≡ put s ++ u) → (s : List ℕ) → length (put s) ≡ length (put []) + length s
-size put f s = ap length (f [] s) ∙ length-append (put []) s

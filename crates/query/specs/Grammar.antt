@@ -8,7 +8,8 @@ use Rattle.encoding.specs.Utf8.{Wide, putWide}
 use Rattle.query.specs.Steps.{Selector, Step}
 use Rattle.query.specs.Steps as S
 
--- RFC 9535 §2.5.1.1: name-first = ALPHA / "_" / %x80-10FFFF
+-- RFC 9535 §2.5.1.1: name-first = ALPHA / "_" / %x80-D7FF / %xE000-10FFFF; the last two are the code points from 80 on that UTF-8 can
+-- write, which leaves the surrogates out
 pub data First : Type 0 where
   upper : In 0x41 0x5A → First
   lower : In 0x61 0x7A → First

@@ -4,10 +4,10 @@ pub mod Examples
 pub mod Grammar
 pub mod Holds
 pub mod Machine
+pub mod MachineLaws
 pub mod Place
 pub mod Read
 pub mod Reader
-pub mod Rows
 pub mod Says
 pub mod Scans
 pub mod Sound

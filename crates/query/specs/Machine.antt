@@ -3,30 +3,13 @@ use mathlib.Core.List.{List, [], _∷_}
 use mathlib.Core.Bool.{Bool, true, false, _&&_}
 use Prim.Native.Nat.{ℕ, zero, suc}
 use lib.Dec.{leb}
+use Rattle.encoding.specs.Utf8.{Second, anyTail, afterE0, afterED, afterF0, afterF4, secondLow, secondHigh}
 use Rattle.query.specs.Grammar.{Quote, single, double, quoteByte, beforeQuote, afterQuote, Depth, plain, deep}
 
 -- which name is being read: a shorthand one, or one in quotes
 pub data Home : Type 0 where
   short : Home
   quoted : Quote → Home
-
--- what may follow the first byte of a code point from 80 (hexadecimal) on: any byte of 80-BF, or fewer after E0, ED, F0, F4
-pub data Second : Type 0 where
-  anyTail afterE0 afterED afterF0 afterF4 : Second
-
-abbrev pub secondLow : Second → ℕ
-secondLow anyTail = 0x80
-secondLow afterE0 = 0xA0
-secondLow afterED = 0x80
-secondLow afterF0 = 0x90
-secondLow afterF4 = 0x80
-
-abbrev pub secondHigh : Second → ℕ
-secondHigh anyTail = 0xBF
-secondHigh afterE0 = 0xBF
-secondHigh afterED = 0x9F
-secondHigh afterF0 = 0xBF
-secondHigh afterF4 = 0x8F
 
 pub data Control : Type 0 where
   root : Control  -- `$` is due

@@ -8,10 +8,11 @@ use native.Mathlib.Omega.{arith}
 use lib.Dec.{T}
 use lib.ListN.{length, take}
 use Rattle.encoding.specs.Prefix.{Alive, DeadPlace}
+use Rattle.encoding.specs.Utf8.{anyTail, afterE0, afterED, afterF0, afterF4}
 use Rattle.query.specs.Grammar as G
 use Rattle.query.specs.Grammar.{Query, QueryText, text}
 use Rattle.query.specs.Machine as M
-use Rattle.query.specs.Machine.{Home, short, quoted, anyTail, afterE0, afterED, afterF0, afterF4, Control, root, done, gap, opened}
+use Rattle.query.specs.Machine.{Home, short, quoted, Control, root, done, gap, opened}
 use Rattle.query.specs.Machine.{closing, inside, tailDue, tailsDue, State, dead, at, step, run, place, final, accept, start}
 use Rattle.query.specs.Read.{Event, Ahead, named, Reading, good, bad, note, event, reading}
 use Rattle.query.specs.Text.{reads-text}

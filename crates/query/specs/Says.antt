@@ -8,6 +8,7 @@ use native.Mathlib.Nat.{le-of-suc-le-suc}
 use native.Mathlib.Omega.{arith}
 use lib.Dec.{T, leb, leb→le, le→leb, nleb→lt}
 use lib.ListN.{length, length-append}
+use Rattle.encoding.specs.BytesLaws.{size}
 use Rattle.encoding.specs.Prefix.{DeadPlace}
 use Rattle.encoding.specs.PrefixLaws.{dead-place-unique}
 use Rattle.encoding.specs.Verdict
@@ -16,8 +17,8 @@ use Rattle.query.specs.Grammar.{Spaced, Query, QueryText, putSpaced, put
 use Rattle.query.specs.Steps.{Step}
 use Rattle.query.specs.Machine.{root}
 use Rattle.query.specs.Read.{Placed, named, Reading, good, reading, stepsRead}
-use Rattle.query.specs.Append.{append-spaced, size}
-use Rattle.query.specs.Rows.{of-T, not-T, so}
+use Rattle.query.specs.Append.{append-spaced}
+use Rattle.query.specs.MachineLaws.{of-T, not-T, so}
 use Rattle.query.specs.Text.{placed, reads-text}
 use Rattle.query.specs.Sound.{sound}
 use Rattle.query.specs.Place.{Tells, well, ill, tells, accepts-text, dead-place}

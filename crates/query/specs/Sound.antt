@@ -7,18 +7,19 @@ use Prim.Native.Nat.{ℕ, zero, suc}
 use native.Mathlib.Omega.{arith}
 use Rattle.encoding.specs.Bytes as B
 use Rattle.encoding.specs.Bytes.{In, Blank, Blanks, blankByte, putBlanks}
-use Rattle.encoding.specs.BytesLaws.{from-low, to-high}
+use Rattle.encoding.specs.BytesLaws.{from-low, to-high, Then, then}
 use Rattle.encoding.specs.Utf8 as U
-use Rattle.encoding.specs.Utf8.{Wide, putWide}
+use Rattle.encoding.specs.Utf8.{Wide, putWide, anyTail, secondLow, secondHigh}
+use Rattle.encoding.specs.Utf8Laws.{Tails}
 use Rattle.query.specs.Grammar as G
 use Rattle.query.specs.Grammar.{First, Later, Quote, Char, quoteByte, Short, Inner, Depth, Segment, Query, QueryText}
 use Rattle.query.specs.Grammar.{putFirst, putLaters, putChar, putChars, putShort, putInner, putSegment, putSpaced, putQuery, text}
 use Rattle.query.specs.Machine as M
-use Rattle.query.specs.Machine.{Home, short, quoted, anyTail, secondLow, secondHigh, Control, root, done, gap, opened, closing}
+use Rattle.query.specs.Machine.{Home, short, quoted, Control, root, done, gap, opened, closing}
 use Rattle.query.specs.Machine.{inside, tailDue, State, dead, at}
 use Rattle.query.specs.Machine.{Row, range, only, wideRows, letterRows, firstRows, stepRows, beginRows, dotRows, innerRows, charRows}
 use Rattle.query.specs.Machine.{rows, takes, pick, step, run, final, accept, start}
-use Rattle.query.specs.Rows.{so}
+use Rattle.query.specs.MachineLaws.{so}
 
 -- what completes a query, by where the machine is
 
@@ -49,14 +50,6 @@ abbrev Inside : Home → List ℕ → Type 0
 Inside short = Shorthand
 Inside (quoted q) = Quoted q
 
--- a byte of a range, and then L
-data Then (lo hi : ℕ) (L : List ℕ → Type 0) : List ℕ → Type 0 where
-  then : {s : List ℕ} (b : In lo hi) → L s → Then lo hi L (b .byte ∷ s)
-
-abbrev Tails : ℕ → Home → List ℕ → Type 0
-Tails zero h = Inside h
-Tails (suc n) h = Then 0x80 0xBF (Tails n h)
-
 data Root : List ℕ → Type 0 where
   begins : (t : Query) → Root (0x24 ∷ putQuery t [])
 
@@ -68,7 +61,7 @@ Rest (M.dotted d) = Dotted d
 Rest opened = Opened
 Rest closing = Closing
 Rest (inside h) = Inside h
-Rest (tailDue p n h) = Then (secondLow p) (secondHigh p) (Tails n h)
+Rest (tailDue p n h) = Then (secondLow p) (secondHigh p) (Tails n (Inside h))
 
 abbrev RestOf : State → List ℕ → Type 0
 RestOf dead s = ⊥
@@ -116,25 +109,25 @@ back-wide h L rs f r =
     c2-df : Back L (range 0xC2 0xDF (tailDue anyTail 0 h))
     c2-df b s (then {s = u} y x) = f (U.c2-df b y) u x
 
-    e0 : Back L (range 0xE0 0xE0 (tailDue M.afterE0 1 h))
+    e0 : Back L (range 0xE0 0xE0 (tailDue U.afterE0 1 h))
     e0 b s (then y (then {s = u} z x)) = f (U.e0 b y z) u x
 
     e1-ec : Back L (range 0xE1 0xEC (tailDue anyTail 1 h))
     e1-ec b s (then y (then {s = u} z x)) = f (U.e1-ec b y z) u x
 
-    ed : Back L (range 0xED 0xED (tailDue M.afterED 1 h))
+    ed : Back L (range 0xED 0xED (tailDue U.afterED 1 h))
     ed b s (then y (then {s = u} z x)) = f (U.ed b y z) u x
 
     ee-ef : Back L (range 0xEE 0xEF (tailDue anyTail 1 h))
     ee-ef b s (then y (then {s = u} z x)) = f (U.ee-ef b y z) u x
 
-    f0 : Back L (range 0xF0 0xF0 (tailDue M.afterF0 2 h))
+    f0 : Back L (range 0xF0 0xF0 (tailDue U.afterF0 2 h))
     f0 b s (then y (then z (then {s = u} w x))) = f (U.f0 b y z w) u x
 
     f1-f3 : Back L (range 0xF1 0xF3 (tailDue anyTail 2 h))
     f1-f3 b s (then y (then z (then {s = u} w x))) = f (U.f1-f3 b y z w) u x
 
-    f4 : Back L (range 0xF4 0xF4 (tailDue M.afterF4 2 h))
+    f4 : Back L (range 0xF4 0xF4 (tailDue U.afterF4 2 h))
     f4 b s (then y (then z (then {s = u} w x))) = f (U.f4 b y z w) u x
 
 -- a name's first character before the rest of a shorthand name

@@ -9,17 +9,17 @@ use lib.ListN.{length, length-append}
 use Rattle.encoding.specs.Bytes as B
 use Rattle.encoding.specs.Bytes.{In, Blank, Blanks, blankByte, putBlanks}
 use Rattle.encoding.specs.Utf8 as U
-use Rattle.encoding.specs.Utf8.{Wide, Tail, putWide}
+use Rattle.encoding.specs.Utf8.{Wide, Tail, putWide, Second, anyTail, afterE0, afterED, afterF0, afterF4, secondLow, secondHigh}
 use Rattle.query.specs.Grammar as G
 use Rattle.query.specs.Grammar.{First, Later, Quote, Char}
 use Rattle.query.specs.Grammar.{putFirst, putLater, putLaters, putChar, putChars}
 use Rattle.query.specs.Machine as M
-use Rattle.query.specs.Machine.{Home, short, quoted, Second, anyTail, afterE0, afterED, afterF0, afterF4, secondLow, secondHigh}
+use Rattle.query.specs.Machine.{Home, short, quoted}
 use Rattle.query.specs.Machine.{Control, root, done, gap, opened, closing, inside, tailDue, State, dead, at, Row, range, rows}
 use Rattle.query.specs.Machine.{wideRows, firstRows, tailsDue, step}
 use Rattle.query.specs.Read as R
 use Rattle.query.specs.Read.{Event, keep, begin, letter, isDotted, isOpened, event, Placed, named, Reading, good, bad, note, reading}
-use Rattle.query.specs.Rows.{of-T, hit, landing, leads-in}
+use Rattle.query.specs.MachineLaws.{of-T, hit, landing, leads-in}
 use Rattle.query.specs.Append.{append-later, append-char}
 
 -- one byte

@@ -7,6 +7,7 @@ use native.Mathlib.Omega.{arith}
 use lib.ListN.{length}
 use Rattle.encoding.specs.Bytes as B
 use Rattle.encoding.specs.Bytes.{Blanks, putBlanks}
+use Rattle.encoding.specs.BytesLaws.{size, length-blanks}
 use Rattle.query.specs.Grammar as G
 use Rattle.query.specs.Grammar.{First, Later, Quote, quoteByte, Short, Inner, Depth, Segment, Query}
 use Rattle.query.specs.Grammar.{putFirst, putLaters, putChars, putShort, putInner, putDots, putDeep, putSegment, putSpaced, putQuery}
@@ -18,7 +19,7 @@ use Rattle.query.specs.Read as R
 use Rattle.query.specs.Read.{begin, deepen, Placed, taking, named, Reading, good, note, reading}
 use Rattle.query.specs.Spell.{turn, moved, kept, alike, done-gap, spell, spell-named, Spells, spells-append, spells-first}
 use Rattle.query.specs.Spell.{spells-laters, spells-chars, reads-blanks, blank-gap, blank-opened, blank-closing}
-use Rattle.query.specs.Append.{append-first, append-laters, append-chars, append-inner, append-dots, append-deep, length-blanks, size}
+use Rattle.query.specs.Append.{append-first, append-laters, append-chars, append-inner, append-dots, append-deep}
 
 -- steps with this one before them
 abbrev pub before : ℕ → Bool → Selector → List Placed → List Placed

@@ -11,12 +11,15 @@ use lib.Dec.{leb}
 use lib.ListN.{length, take, drop, getD, replicate, length-take, length-drop, take-append-drop, List·getD-eq-default}
 use lib.Seq.{getD-drop}
 use Rattle.encoding.specs.Ascii.{ascii}
+use Rattle.encoding.specs.BytesLaws.{length-blanks, size}
 use Rattle.encoding.specs.Verdict.{Verdict, taken}
 use Rattle.json.specs.Grammar as J
-use Rattle.json.specs.TreeOf.{treeOf, treeOf-sound}
+use Rattle.json.specs.TreeOf.{treeOf}
+use Rattle.json.specs.TreeOfLaws.{treeOf-sound}
 use Rattle.json.specs.Verdict as R
+use Rattle.json.specs.Says.{recordSays}
 use Rattle.query.specs.Grammar as Q
-use Rattle.query.specs.Append.{length-blanks, append-query, size}
+use Rattle.query.specs.Append.{append-query}
 use Rattle.query.specs.Steps.{Step}
 use Rattle.query.specs.Verdict as query
 use Rattle.query.specs.Verdict.{stepsIn}
@@ -89,7 +92,7 @@ bracket-within s p k e = by-contra p (length s) (λ h. no k (sym (List·getD-eq-
     no J.object z = omega arith
 
 record-mild : (s : List ℕ) (b : ℕ) → length s ≤ b → Mild b (R.recordVerdict s)
-record-mild s b h = go (R.recordVerdict s) (R.recordSays s)
+record-mild s b h = go (R.recordVerdict s) (recordSays s)
   where
     go : (v : Verdict) → R.RecordSays s v → Mild b v
     go v (R.taken l n) = omega arith

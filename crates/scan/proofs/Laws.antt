@@ -13,11 +13,12 @@ use Rattle.blocks.specs.Laws.{or-parts, odd-drop}
 use Rattle.blocks.specs.Words.{byteAt, isBackslash, oddBefore}
 use Rattle.encoding.specs.Class.{classOf}
 use Rattle.encoding.specs.Bytes.{Blanks, putBlanks, putIn}
-use Rattle.json.specs.Append.{blanks-split, length-blanks, value-split, length-value, value-positive, append-chars, chars-split, length-chars}
+use Rattle.encoding.specs.BytesLaws.{blanks-split, length-blanks}
+use Rattle.json.specs.Append.{value-split, length-value, value-positive, append-chars, chars-split, length-chars}
 use Rattle.json.specs.Grammar as G
 use Rattle.json.specs.Grammar.{Literal, Minus, Int, Char, Name, Value}
 use Rattle.json.specs.Grammar.{putLiteral, putMinus, putInt, putFrac, putExp, putChars, putString, putKey, putValue}
-use Rattle.json.specs.Read.{in-bounds}
+use Rattle.encoding.specs.BytesLaws.{in-bounds}
 use Rattle.select.specs.Nodes.{size, keySize}
 use Rattle.swar.specs.Kinds.{unquoted, gap}
 use Rattle.swar.specs.Run.{Run}

@@ -6,7 +6,8 @@ use native.Mathlib.Omega.{arith}
 use lib.ListN.{length, take, drop, getD, length-drop}
 use lib.Seq.{drop-cons, drop-drop, drop-append-seam, slice, take-nil}
 use Rattle.encoding.specs.Bytes.{Blanks, putBlanks}
-use Rattle.json.specs.Append.{blanks-split, length-blanks, key-split, value-split}
+use Rattle.encoding.specs.BytesLaws.{blanks-split, length-blanks}
+use Rattle.json.specs.Append.{key-split, value-split}
 use Rattle.json.specs.Grammar.{Kind, Key, Value, putKey, putValue}
 use Rattle.select.specs.Nodes.{size, keySize}
 

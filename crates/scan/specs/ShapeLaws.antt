@@ -10,7 +10,7 @@ use borrow.Author.Tests.{not-true, ne-eqb}
 use Rattle.bits.specs.Truth.{allBelow, all-at}
 use Rattle.encoding.specs.Bytes as B
 use Rattle.encoding.specs.Bytes.{In, putIn, Blank, Blanks, blankByte, putBlanks}
-use Rattle.json.specs.Read.{in-bounds}
+use Rattle.encoding.specs.BytesLaws.{in-bounds}
 use Rattle.encoding.specs.Class.{classOf}
 use Rattle.encoding.specs.ClassLaws as Class
 use Rattle.encoding.specs.Utf8 as U

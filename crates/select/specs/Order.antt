@@ -8,9 +8,10 @@ use Prim.Native.Nat.{ℕ, zero, suc, _+_, _≤_, _<_}
 use native.Mathlib.Numerals.{add-one}
 use native.Mathlib.Omega.{arith}
 use lib.ListN.{length, getElem?}
+use Rattle.encoding.specs.BytesLaws.{length-blanks}
 use Rattle.json.specs.Grammar.{Kind, Value, literal, number, string, container, Items, empty}
 use Rattle.json.specs.Grammar.{items, More, end, more, putValue, putItems, putMore, Tree}
-use Rattle.json.specs.Append.{length-blanks, length-key, length-value, value-positive}
+use Rattle.json.specs.Append.{length-key, length-value, value-positive}
 use Rattle.select.specs.Nodes.{Label, Node, Child, size, keySize, endOf, root, children}
 use Rattle.select.specs.Nodes.{valueChildren, itemsChildren, moreChildren, IsChild, Below, IsNode}
 use Rattle.select.specs.Nodes as N

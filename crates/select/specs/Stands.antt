@@ -6,9 +6,10 @@ use Prim.Native.Nat.{ℕ, _+_, _-_}
 use native.Mathlib.Omega.{arith}
 use lib.ListN.{length, take, drop, length-append}
 use lib.Seq.{take-at, drop-at}
+use Rattle.encoding.specs.BytesLaws.{blanks-split, length-blanks}
 use Rattle.json.specs.Grammar.{Kind, Value, literal, number, string, container, Items, empty, items}
 use Rattle.json.specs.Grammar.{More, end, more, opening, putValue, putItems, putMore, Tree, text}
-use Rattle.json.specs.Append.{blanks-split, key-split, value-split, length-blanks}
+use Rattle.json.specs.Append.{key-split, value-split}
 use Rattle.select.specs.Nodes.{Label, Node, Child, size, keySize, endOf, root, children}
 use Rattle.select.specs.Nodes.{valueChildren, itemsChildren, moreChildren, IsChild, Below, IsNode}
 use Rattle.select.specs.Nodes as N

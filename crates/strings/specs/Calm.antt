@@ -9,7 +9,7 @@ use Rattle.encoding.specs.Bytes as B
 use Rattle.encoding.specs.Bytes.{putIn, Blanks, putBlanks}
 use Rattle.json.specs.Grammar as G
 use Rattle.json.specs.Grammar.{Digit, Literal, Minus, Int, Frac, Exp, putLiteral, putMinus, putInt, putFrac, putExp, putExpSign}
-use Rattle.json.specs.Read.{in-bounds}
+use Rattle.encoding.specs.BytesLaws.{in-bounds}
 use Rattle.strings.specs.Parts.{calm, allCalm}
 
 calm-cons : (b : ℕ) (s : List ℕ) → calm b ≡ true → allCalm s ≡ true → allCalm (b ∷ s) ≡ true

@@ -12,7 +12,8 @@ use Rattle.encoding.specs.Bytes.{Blanks, putBlanks}
 use Rattle.json.specs.Grammar as G
 use Rattle.json.specs.Grammar.{Kind, Key, Literal, Minus, Int, Frac, Exp, putLiteral, putString}
 use Rattle.json.specs.Grammar.{putKey, putValue, putItems, putMore, Char, Value, Items, More}
-use Rattle.json.specs.Append.{blanks-split, length-blanks, string-split, value-split, length-key, length-value, length-string}
+use Rattle.encoding.specs.BytesLaws.{blanks-split, length-blanks}
+use Rattle.json.specs.Append.{string-split, value-split, length-key, length-value, length-string}
 use Rattle.select.specs.Nodes.{size, keySize}
 use Rattle.strings.specs.Strings.{Quotes, quotesOf, keyStrings}
 use Rattle.strings.specs.Parts.{head, calm, calm-is, allCalm, past, Flat, flat-then, flat-byte, flat-bytes, flat-string}

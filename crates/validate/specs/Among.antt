@@ -10,7 +10,7 @@ use lib.ListN.{length, getD}
 use Rattle.bits.specs.Truth.{and-left, and-right}
 use Rattle.json.specs.Room.{Room}
 use Rattle.json.specs.Machine.{Ctl, Stack, top, at, Rule, one, lowest, highest, rules, step}
-use Rattle.json.specs.Steps.{Picks, inside, past, nowhere, step-by}
+use Rattle.json.specs.MachineLaws.{Picks, inside, past, nowhere, step-by}
 
 -- what is refused is not taken
 pub never : {A : Type 0} → false ≡ true → A

@@ -12,7 +12,7 @@ use Rattle.swar.specs.Run.{Passed}
 use Rattle.json.specs.Grammar.{Kind}
 use Rattle.json.specs.Room.{Room}
 use Rattle.json.specs.Machine.{Ctl, item, colon, after, Stack, at, Rule, blankRules, step}
-use Rattle.json.specs.Steps.{Picks, past, item-blank, colon-blank, after-blank}
+use Rattle.json.specs.MachineLaws.{Picks, past, item-blank, colon-blank, after-blank}
 use Rattle.json.specs.Led.{Led, led-skip}
 use Rattle.validate.specs.Among.{missed}
 

@@ -11,7 +11,8 @@ use Rattle.swar.specs.Kinds.{blank}
 use Rattle.swar.specs.Run.{Run}
 use Rattle.json.specs.Grammar.{array, object}
 use Rattle.json.specs.Machine.{after, at, accept}
-use Rattle.json.specs.Check.{ended, here, end-at}
+use Rattle.json.specs.Check.{ended}
+use Rattle.json.specs.CheckLaws.{here, end-at}
 use Rattle.json.specs.Led.{outcome, led-here}
 use Rattle.json.specs.Verdict.{maxDepth, maxBytes, textVerdict, recordVerdict}
 use Rattle.validate.specs.Blanks.{Loose, at-item, at-after, led-blanks}

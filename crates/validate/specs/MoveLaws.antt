@@ -17,7 +17,7 @@ use Rattle.encoding.specs.Utf8Steps as U
 use Rattle.encoding.specs.Utf8Steps.{rowAt}
 use Rattle.json.specs.Room.{Room}
 use Rattle.json.specs.Machine.{inString, Stack, top, at, rules}
-use Rattle.json.specs.Steps.{landing, step-range}
+use Rattle.json.specs.MachineLaws.{landing, step-range}
 use Rattle.json.specs.Led.{led-here, led-go, led-on}
 use Rattle.validate.specs.Moves.{Stand, between, escape, point, inside, stateOf, Goes, Move, move, orIf, joined, withMove, MoveAdded, Added}
 use Rattle.validate.specs.Moves.{plainMoves, escapeMoves, afterSecond, RowAdded, pointMoves}

@@ -17,7 +17,7 @@ use Rattle.swar.specs.Passing.{one-more}
 use Rattle.json.specs.Grammar.{Kind}
 use Rattle.json.specs.Room.{Room, endless}
 use Rattle.json.specs.Machine.{Ctl, after, afterMinus, afterZero, inInt, afterPoint, inFrac, afterE, afterSign, inExp, Stack, top, at, dead, Rule, one, span, afterRules, rules, step, final}
-use Rattle.json.specs.Steps.{Picks, inside, past, nowhere, landing, step-range, step-by, step-over}
+use Rattle.json.specs.MachineLaws.{Picks, inside, past, nowhere, landing, step-range, step-by, step-over}
 use Rattle.validate.specs.Among.{never, Among, this, other, no-more, AmongAt, byte, nothing, missed, each, among-picks, among-past, among-within}
 use Rattle.json.specs.Led.{Led, led-here, led-go, led-die, led-end, led-over, led-same, led-skip, led-on}
 

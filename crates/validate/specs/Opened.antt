@@ -10,7 +10,7 @@ use Rattle.swar.specs.KindLaws.{not-blank}
 use Rattle.json.specs.Grammar.{Kind, array, object, closing}
 use Rattle.json.specs.Room.{Room}
 use Rattle.json.specs.Machine.{Ctl, item, inString, wordDue, afterMinus, afterZero, inInt, Stack, State, at, Rule, one, span, opens, closes, lowest, highest, takes, apply, blankRules, pick, step}
-use Rattle.json.specs.Steps.{pick-later, takes-between}
+use Rattle.json.specs.MachineLaws.{pick-later, takes-between}
 use Rattle.json.specs.Led.{Led, led-here, led-over, led-same}
 use Rattle.validate.specs.Among.{AmongAt, byte, nothing, other, no-more, missed}
 

@@ -13,7 +13,7 @@ use Rattle.swar.specs.Kinds.{blank}
 use Rattle.json.specs.Grammar.{array, object}
 use Rattle.json.specs.Room.{Room, endless}
 use Rattle.json.specs.Machine.{Ctl, valueDue, after, inString, wordDue, afterMinus, afterZero, inInt, Stack, at, one, opens, rules, step}
-use Rattle.json.specs.Steps.{Picks, past, nowhere, landing, step-range, step-by}
+use Rattle.json.specs.MachineLaws.{Picks, past, nowhere, landing, step-range, step-by}
 use Rattle.json.specs.Led.{Led, led-here, led-go, led-die, led-same, led-on}
 use Rattle.validate.specs.Among.{never, missed}
 use Rattle.validate.specs.Blanks.{past-blanks}

@@ -17,8 +17,9 @@ use Rattle.encoding.specs.Utf8At.{RestAt, ReadsAt, reads-at, scanned-within}
 use Rattle.encoding.specs.WideRun as W
 use Rattle.encoding.specs.WideRun.{WideAt, WideRun, run-moved}
 use Rattle.json.specs.Room.{Room, endless}
-use Rattle.json.specs.Machine.{Ctl, inString, escaping, hexDue, tailDue, anyTail, afterE0, afterED, afterF0, afterF4, closed, Stack, State, at, dead, one, span, hexRules, rules, step, final}
-use Rattle.json.specs.Steps.{inside, past, nowhere, landing, step-range, step-by}
+use Rattle.json.specs.Machine.{Ctl, inString, escaping, hexDue, tailDue, closed, Stack, State, at, dead, one, span, hexRules, rules, step, final}
+use Rattle.encoding.specs.Utf8.{anyTail, afterE0, afterED, afterF0, afterF4}
+use Rattle.json.specs.MachineLaws.{inside, past, nowhere, landing, step-range, step-by}
 use Rattle.json.specs.Led.{Led, led-here, led-go, led-die, led-end, led-skip, led-on, led-dead}
 use Rattle.validate.specs.Among.{never, Among, among-step, among-past, topped, over-all}
 

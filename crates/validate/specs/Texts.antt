@@ -10,7 +10,7 @@ use Rattle.swar.specs.Kinds.{blank}
 use Rattle.json.specs.Grammar.{object}
 use Rattle.json.specs.Room.{Room, endless}
 use Rattle.json.specs.Machine.{item, colon, after, inString, closed, valueDue, Stack, at, one, step}
-use Rattle.json.specs.Steps.{past, nowhere, step-by}
+use Rattle.json.specs.MachineLaws.{past, nowhere, step-by}
 use Rattle.json.specs.Led.{Led, led-here, led-go, led-die, led-end, led-on, led-dead}
 use Rattle.validate.specs.Among.{never, other, no-more, AmongAt, byte, nothing, missed, among-within, among-byte}
 use Rattle.validate.specs.Blanks.{past-blanks}

@@ -12,8 +12,8 @@ use Rattle.swar.specs.Run.{Run}
 use Rattle.json.specs.Grammar.{object, opening, closing}
 use Rattle.json.specs.Room.{left, endless, wider}
 use Rattle.json.specs.Machine.{Ctl, item, after, valueDue, Stack, pop, one, closes}
-use Rattle.json.specs.Steps.{past, nowhere, step-by, item-close, after-comma, after-close}
-use Rattle.json.specs.Check.{here, go-at, die-at, deep-at, enter-at}
+use Rattle.json.specs.MachineLaws.{past, nowhere, step-by, item-close, after-comma, after-close}
+use Rattle.json.specs.CheckLaws.{here, go-at, die-at, deep-at, enter-at}
 use Rattle.json.specs.Led.{Led, outcome, led-here}
 use Rattle.json.specs.Verdict.{maxDepth}
 use Rattle.validate.specs.Among.{never, AmongAt, among-within, among-byte, missed}

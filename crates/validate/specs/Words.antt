@@ -6,7 +6,7 @@ use mathlib.Core.Option.{none}
 use Prim.Native.Nat.{ℕ, _+_}
 use Rattle.json.specs.Room.{endless}
 use Rattle.json.specs.Machine.{Ctl, wordDue, after, Stack, top, rules}
-use Rattle.json.specs.Steps.{nowhere, step-by}
+use Rattle.json.specs.MachineLaws.{nowhere, step-by}
 use Rattle.json.specs.Led.{Led, led-go, led-die, led-end}
 use Rattle.validate.specs.Among.{never, each, AmongAt, byte, nothing, among-past, among-step}
 

@@ -9,8 +9,9 @@ use native.Mathlib.Omega.{arith}
 use borrow.Author.Tests.{eq-eqb}
 use lib.ListN.{length, drop, getD}
 use Rattle.encoding.specs.Bytes.{Blanks, putBlanks}
+use Rattle.encoding.specs.BytesLaws.{length-blanks}
 use Rattle.encoding.specs.Class.{classOf}
-use Rattle.json.specs.Append.{length-blanks, length-value, length-key}
+use Rattle.json.specs.Append.{length-value, length-key}
 use Rattle.json.specs.Grammar as G
 use Rattle.json.specs.Grammar.{Kind, Key, Value, Items, More, closing, putKey, putValue, putItems, putMore, nesting, itemsNesting, moreNesting}
 use Rattle.select.specs.Nodes.{Label, size, keySize, labelOf}

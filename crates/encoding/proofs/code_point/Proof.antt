@@ -1,14 +1,14 @@
 -- `encoding::code_point` meets its contract: at the end, at a byte that no row has, and by the row of the byte that stands there.
 -- Assumes nothing.
 use mathlib.Core.Path.{refl}
-use Rattle.encoding.specs.CodePoint.{reading}
+use Rattle.encoding.specs.CodePoint.{decoding}
 use Rattle.encoding.proofs.Scans.{at-end, at-wrong}
 use borrow.Author.Needs.{needs}
 use Rattle.encoding.proofs.code_point.Statement.{statement}
 use Rattle.encoding.proofs.code_point.Tie as tie
 
 returns : tie.Need-returns
-unfolding reading
+unfolding decoding
 returns c = at-end (c .if1 .taken) refl
 
 shared-slice-read-row-of : tie.Need-shared-slice-read-row-of

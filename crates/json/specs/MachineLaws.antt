@@ -1,24 +1,21 @@
--- Laws of the machine's step: over a whole range of bytes at once, by what is known of one byte, and in more room.
+-- Laws of the machine's step: over a whole range of bytes at once, by what is known of one byte, and in more room. Assumes nothing.
 use mathlib.Core.Path.{_≡_, refl, _∙_}
 use mathlib.Core.List.{List, [], _∷_, _++_}
 use mathlib.Core.Bool.{Bool, true, false, _&&_, _||_, and-eq-true-iff}
 use mathlib.Core.Option.{Option, some, none}
 use Prim.Native.Nat.{ℕ, zero, suc, _≤_}
 use native.Mathlib.Omega.{arith}
-use lib.Dec.{T, leb, ltb, leb→le}
+use lib.Dec.{leb, ltb}
 use borrow.Author.Tests.{le-leb, leb-true, ltb-true}
 use Rattle.encoding.specs.Bytes as B
 use Rattle.encoding.specs.Bytes.{In, Blank, blankByte}
+use Rattle.encoding.specs.BytesLaws.{from-low, to-high}
 use Rattle.json.specs.Grammar.{Kind, array, object, opening, closing}
 use Rattle.json.specs.Room.{Room, left, endless, wider}
 use Rattle.json.specs.Machine.{Ctl, item, colon, after, Stack, top, pop, State, dead, at, entered, Rule, one, span}
 use Rattle.json.specs.Machine.{opens, closes, lowest, highest, takes, apply, afterRules, rules, pick, step}
 
 -- tests
-and-so : (x y : Bool) → T (x && y) → T x × T y
-and-so true y t = (tt, t)
-and-so false y t = absurd t
-
 or-true : {A : Type 0} (x y : Bool) → x || y ≡ true → (x ≡ true → A) → (y ≡ true → A) → A
 or-true true y e f g = f refl
 or-true false y e f g = g e
@@ -26,12 +23,6 @@ or-true false y e f g = g e
 not-true : (x : Bool) → (x ≡ true → ⊥) → x ≡ false
 not-true true f = absurd (f refl)
 not-true false f = refl
-
-pub in-low : {lo hi : ℕ} (b : In lo hi) → lo ≤ b .byte
-in-low {lo} {hi} b = leb→le lo (b .byte) (and-so (leb lo (b .byte)) (leb (b .byte) hi) (b .ok) .0)
-
-pub in-high : {lo hi : ℕ} (b : In lo hi) → b .byte ≤ hi
-in-high {lo} {hi} b = leb→le (b .byte) hi (and-so (leb lo (b .byte)) (leb (b .byte) hi) (b .ok) .1)
 
 -- the first rule that has the byte, or a later one
 pick-this : (r : Rule) (rs : List Rule) (b : ℕ) (k : Stack) (ρ : Room) → takes r b ≡ true → pick (r ∷ rs) b k ρ ≡ apply r k ρ
@@ -92,7 +83,7 @@ step-range c k ρ lo hi b st e p q = lands lo hi (rules c (top k)) k ρ st e b p
 
 pub step-in : (c : Ctl) (k : Stack) (ρ : Room) {lo hi : ℕ} (b : In lo hi) (st : State) → landing lo hi (rules c (top k)) k ρ ≡ some st →
     step (at c k ρ) (b .byte) ≡ st
-step-in c k ρ {lo} {hi} b st e = step-range c k ρ lo hi (b .byte) st e (in-low b) (in-high b)
+step-in c k ρ {lo} {hi} b st e = step-range c k ρ lo hi (b .byte) st e (from-low b) (to-high b)
 
 -- the first rule that has the byte, by what is known of the byte; none where no rule has it
 pub data Picks : List Rule → ℕ → Option Rule → Type 0 where
