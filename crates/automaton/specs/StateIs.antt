@@ -9,14 +9,14 @@ use lib.Dec.{eqb, eqb·suc-zero}
 use lib.ListN.{length, getElem?}
 use Rattle.bits.specs.Bits.{bit, number}
 use Rattle.bits.specs.Laws.{bit-number, number-same}
-use Rattle.query.specs.Steps.{Step}
+use Rattle.query.specs.Steps.{Step, isDeep}
 use Rattle.json.specs.Grammar.{Tree}
 use Rattle.select.specs.Nodes.{Label, root}
 use Rattle.select.specs.MarksStep.{stepHits, mark-root, mark-root-suc, mark-zero, mark-suc, picks-step, picks-root}
 use Rattle.select.specs.MarksAre.{first-marks}
 use Rattle.select.specs.Visits.{Way, step, nodeVisits, nodes}
 use Rattle.select.specs.VisitsMap.{over, visits-map}
-use Rattle.select.specs.Ways.{isDeep, mark, picksBack, picks, sameMarks, frames}
+use Rattle.select.specs.Ways.{mark, picksBack, picks, sameMarks, frames}
 use Rattle.automaton.specs.State.{State, nextMark, nextMarks, pickAt, nextPicked, next, stateAt, start}
 
 no-steps : (q : List Step) → length q ≡ 0 → q ≡ []

@@ -7,7 +7,7 @@ use native.Mathlib.Omega.{arith}
 use lib.Bits.{bitAnd, bitOr, bitXor}
 use Rattle.bits.specs.Bits.{bit}
 use Rattle.bits.specs.Laws.{bit-and, bit-or, bit-xor, bit-not, bit-zero}
-use Rattle.blocks.specs.Laws.{or-parts}
+use Rattle.bits.specs.Truth.{neither}
 use Rattle.blocks.specs.Parts.{oddRun, parity, Marked}
 use Rattle.blocks.proofs.Escape.{all-ones}
 use Rattle.blocks.proofs.Parity.{parity-from, parity-none}
@@ -32,7 +32,7 @@ module _ (q b : ℕ) (inside odd : Bool) (e prefix fill : ℕ)
 
 module _ (q b : ℕ) (inside odd : Bool) (fill : ℕ) (none : bitOr q b ≡ 0) (fills : (i : ℕ) → i < 64 → bit i fill ≡ inside) where
   off : (i : ℕ) → (bit i q ≡ false) × (bit i b ≡ false)
-  off i = or-parts (bit i q) (bit i b) (sym (bit-or i q b) ∙ ap (bit i) none ∙ bit-zero i)
+  off i = neither (bit i q) (bit i b) (sym (bit-or i q b) ∙ ap (bit i) none ∙ bit-zero i)
 
   pub marked-none : Marked q b inside odd 0 fill false
   unfolding oddRun

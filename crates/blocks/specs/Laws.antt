@@ -13,7 +13,7 @@ use borrow.Author.Tests.{ne-eqb}
 use lib.Bits.{bitOr}
 use Rattle.bits.specs.Bits.{bit, Lowest}
 use Rattle.bits.specs.Laws.{lt-or-ge, bit-or, bit-number, number-high}
-use Rattle.bits.specs.Truth.{truth}
+use Rattle.bits.specs.Truth.{neither, false-xor, true-xor}
 use Rattle.blocks.specs.Words.{byteAt, isBackslash, oddBefore, realQuote, oddQuotes, inString, opensAt, closesAt, blockSize, quotesWord, stringsWord, openingWord, closingWord, insideAfter, oddAfter}
 
 -- ---- the size of a block
@@ -79,10 +79,6 @@ module _ (s : List ℕ) (inside odd : Bool) (i : ℕ) (h : blockSize s ≤ i) wh
 
 -- ---- the next bracket is the lowest bit that is on
 
-pub or-parts : (a b : Bool) → (a || b) ≡ false → (a ≡ false) × (b ≡ false)
-or-parts true b e = (e, cc)
-or-parts false b e = (refl, e)
-
 module _ (s : List ℕ) (inside odd : Bool) (i : ℕ) (low : Lowest 64 (bitOr (openingWord inside odd s) (closingWord inside odd s)) i) where
   bracket : ℕ → Bool
   bracket j = opensAt inside odd s j || closesAt inside odd s j
@@ -108,7 +104,7 @@ module _ (s : List ℕ) (inside odd : Bool) (i : ℕ) (low : Lowest 64 (bitOr (o
 
   pub none-before : (j : ℕ) → j < blockSize s → j < i → (opensAt inside odd s j ≡ false) × (closesAt inside odd s j ≡ false)
   unfolding bracket
-  none-before j h l = or-parts (opensAt inside odd s j) (closesAt inside odd s j) (sym (bracket-bit j h) ∙ low .none-below j l)
+  none-before j h l = neither (opensAt inside odd s j) (closesAt inside odd s j) (sym (bracket-bit j h) ∙ low .none-below j l)
 
 -- ---- two records that agree before place n
 
@@ -187,14 +183,6 @@ module _ (s : List ℕ) (inside odd : Bool) (n : ℕ) where
   closes-drop i = ap₂ (λ (x : ℕ) (y : Bool). (eqb x 0x5D || eqb x 0x7D) && not y) (byte-drop i) (string-drop i)
 
 -- ---- past the end there is no quote
-
-false-xor : (a : Bool) → xor false a ≡ a
-unfolding xor
-false-xor = truth 1 (xor false) (λ a. a) tt
-
-true-xor : (a : Bool) → xor true a ≡ not a
-unfolding xor
-true-xor = truth 1 (xor true) not tt
 
 pub quote-past : (s : List ℕ) (odd : Bool) (i : ℕ) → length s ≤ i → realQuote odd s i ≡ false
 unfolding realQuote byteAt

@@ -11,11 +11,11 @@ use borrow.Author.Tests.{ltb-true, ltb-false}
 use lib.Dec.{ltb}
 use lib.ListN.{length, getElem?}
 use Rattle.json.specs.Grammar.{Tree}
-use Rattle.query.specs.Steps.{Step}
+use Rattle.query.specs.Steps.{Step, isDeep}
 use Rattle.select.specs.Nodes.{Label}
 use Rattle.select.specs.Marks.{Peak}
 use Rattle.select.specs.Visits.{Way, nodes}
-use Rattle.select.specs.Ways.{isDeep, mark, sameMarks, frameIf, frames, peak}
+use Rattle.select.specs.Ways.{mark, sameMarks, frameIf, frames, peak}
 use Rattle.select.specs.MarksStep.{mark-root-suc, mark-less, Origin, mark-origin}
 use Rattle.select.specs.MarksAre.{mark-below}
 use Rattle.select.specs.PeakIs.{most-bound, peak-is, peak-unique}
@@ -191,7 +191,6 @@ abbrev pub AllSteps : (deep : Bool) → List Step → Type 0
 AllSteps d q = (s : Step) → List·Memᴰ s q → s .deep ≡ d
 
 step-kind : (d : Bool) (q : List Step) → AllSteps d q → (i : ℕ) → i < length q → isDeep (getElem? q i) ≡ d
-unfolding isDeep
 step-kind d [] h i k = absurd (omega arith)
 step-kind d (s ∷ q) h zero k = h s (List·Memᴰ·head refl)
 step-kind d (s ∷ q) h (suc i) k = step-kind d q (λ x m. h x (List·Memᴰ·tail m)) i (omega arith)

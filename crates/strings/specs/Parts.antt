@@ -1,7 +1,7 @@
 -- What the sorter's facts and words are over the parts of a text that have no brackets: bytes that it passes over, and strings.
 -- A string is pieces between two quotes; no piece has a real quote. Assumes nothing.
 use mathlib.Core.Path.{_≡_, refl, sym, ap, subst, _∙_}
-use mathlib.Core.Bool.{Bool, true, false, not, _&&_, _||_, and-false, false≢true}
+use mathlib.Core.Bool.{Bool, true, false, not, _&&_, _||_, and-false, and-eq-true-iff, false≢true}
 use mathlib.Core.List.{List, [], _∷_, _++_, List·Memᴰ·head, List·Memᴰ·not-nil}
 use mathlib.Core.List.{List·Memᴰ·append-cases, List·Memᴰ·eq-of-singleton, Memᴰ·append-left, Memᴰ·append-right}
 use mathlib.Core.Logic.{_⊎_, inl, inr, ⊎-elim}
@@ -14,6 +14,7 @@ use lib.ListN.{length, getD, drop, length-drop}
 use lib.Seq.{drop-drop, drop-append-seam, getD-drop}
 use borrow.Author.Tests.{eqb-false, not-true}
 use Rattle.bits.specs.Laws.{lt-or-ge}
+use Rattle.bits.specs.Truth.{neither}
 use Rattle.blocks.specs.Words.{byteAt, oddQuotes, inString, opensAt, closesAt}
 use Rattle.blocks.specs.Laws.{Carried, carry-plain, carry-backslash, carry-escaped, carry-quote, carried-string}
 use Rattle.json.specs.Grammar.{Char, putChars, putString}
@@ -53,14 +54,6 @@ unfoldable pub allCalm : List ℕ → Bool
 unfolding calm
 allCalm [] = true
 allCalm (b ∷ bs) = calm b && allCalm bs
-
-both-true : (x y : Bool) → (x && y) ≡ true → (x ≡ true) × (y ≡ true)
-both-true true y e = (refl, e)
-both-true false y e = absurd (false≢true e)
-
-neither : (x y : Bool) → (x || y) ≡ false → (x ≡ false) × (y ≡ false)
-neither true y e = absurd (false≢true (sym e))
-neither false y e = (refl, e)
 
 pub calm-is : (b : ℕ) → calm b ≡ true → Calm b
 unfolding calm
@@ -185,7 +178,7 @@ module _ {inside odd : Bool} {s : List ℕ} {o : ℕ} where
       → Flat inside odd s o a (a + length xs) []
   unfolding allCalm
   flat-bytes [] rest a h e c = flat-to (sym (add-zero a)) (flat-none c)
-  flat-bytes (x ∷ xs) rest a h e c = more-bytes (head s a x (xs ++ rest) e) (both-true (calm x) (allCalm xs) h) c (flat-bytes xs rest (suc a))
+  flat-bytes (x ∷ xs) rest a h e c = more-bytes (head s a x (xs ++ rest) e) (and-eq-true-iff (calm x) (allCalm xs) .0 h) c (flat-bytes xs rest (suc a))
     where
       more-bytes : Head s a x (xs ++ rest) → (calm x ≡ true) × (allCalm xs ≡ true) → Carried inside odd s a false false
           → (allCalm xs ≡ true → drop (suc a) s ≡ xs ++ rest → Carried inside odd s (suc a) false false
