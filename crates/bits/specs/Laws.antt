@@ -210,11 +210,6 @@ unfolding digit on
 digit-on zero h = refl
 digit-on (suc x) h = omega arith
 
--- a flag is its own lowest bit
-pub bit-flag : (n : ℕ) → n < 2 → bit 0 n ≡ on n
-unfolding bit
-bit-flag n h = let e : n % 2 ≡ n = omega arith in ap on e
-
 pub number-of : (n w : ℕ) (f : ℕ → Bool) → ((i : ℕ) → i < n → bit i w ≡ f i) → w % 2 ^ n ≡ number n f
 unfolding number bit
 number-of zero w f h = omega arith
@@ -254,10 +249,6 @@ number-same zero f g h = refl
 number-same (suc n) f g h =
     ap₂ (λ (x : ℕ) (b : Bool). x * 2 + digit b)
     (number-same n (λ i. f (suc i)) (λ i. g (suc i)) (λ i l. h (suc i) (omega arith))) (h 0 (omega arith))
-
--- the number 0 has no bit
-pub number-zero : (n : ℕ) (f : ℕ → Bool) → number n f ≡ 0 → (i : ℕ) → i < n → f i ≡ false
-number-zero n f e i h = sym (bit-number n i f h) ∙ ap (bit i) e ∙ bit-zero i
 
 -- ---- sums
 

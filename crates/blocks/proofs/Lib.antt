@@ -4,5 +4,5 @@ pub mod Escape
 pub mod Gather
 pub mod Fill
 pub mod Packing
-pub mod Marking
+pub mod StringsFound
 pub mod Sort

@@ -7,8 +7,8 @@ use Prim.Native.Nat.{ℕ, zero, suc, _+_, _<_, _≤_}
 use native.Mathlib.Nat.{add-zero, add-suc, suc-add, zero-add, min-eq-left, min-eq-right, min-le-right}
 use native.Mathlib.Omega.{arith}
 use lib.Dec.{eqb}
-use lib.ListN.{length, take, drop, List·getD-eq-default}
-use lib.Seq.{getD-drop, getD-take}
+use lib.ListN.{length, drop, List·getD-eq-default}
+use lib.Seq.{getD-drop}
 use borrow.Author.Tests.{ne-eqb}
 use lib.Bits.{bitOr}
 use Rattle.bits.specs.Bits.{bit, Lowest}
@@ -138,11 +138,6 @@ module _ (s t : List ℕ) (n : ℕ) (same : (j : ℕ) → j < n → byteAt s j �
   pub closes-same : (i : ℕ) → i < n → closesAt inside odd s i ≡ closesAt inside odd t i
   unfolding closesAt
   closes-same i h = ap₂ (λ (x : ℕ) (y : Bool). (eqb x 0x5D || eqb x 0x7D) && not y) (same i h) (string-same i h)
-
--- the first n bytes agree with the whole before place n
-pub byte-take : (s : List ℕ) (n j : ℕ) → j < n → byteAt (take n s) j ≡ byteAt s j
-unfolding byteAt
-byte-take s n j h = getD-take n s j 0 h
 
 -- ---- from place n on, with the facts at n carried
 

@@ -70,7 +70,7 @@ pub record Classified (s : List ℕ) (quotes backslashes opening closing : ℕ) 
   pub closing-at : (i : ℕ) → i < 64 → bit i closing ≡ isClosing s i
 
 -- the real ones of the quotes q where b are the backslashes, the places inside strings, and whether an odd run is last
-pub record Marked (q b : ℕ) (inside odd : Bool) (quotes strings : ℕ) (ends : Bool) : Type 0 where
+pub record StringsFound (q b : ℕ) (inside odd : Bool) (quotes strings : ℕ) (ends : Bool) : Type 0 where
   pub quotes-at : (i : ℕ) → i < 64 → bit i quotes ≡ (bit i q && not (oddRun odd (λ j. bit j b) i))
   pub strings-at : (i : ℕ) → i < 64 → bit i strings ≡ parity inside (λ j. bit j quotes) (i + 1)
   pub ends-is : ends ≡ oddRun odd (λ j. bit j b) 64

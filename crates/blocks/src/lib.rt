@@ -2,11 +2,11 @@
 use bits::has;
 use bits::load8;
 ghost use mathlib.Core.Path.{_≡_};
-ghost use mathlib.Core.Bool.{true, false};
+ghost use mathlib.Core.Bool.{false};
 ghost use Prim.Native.Nat.{ℕ, _+_, _*_, _-_, _/_, _%_, _^_, _<_, _≤_};
 ghost use lib.ListN.{length};
 ghost use Rattle.bits.specs.Bits.{bit};
-ghost use Rattle.blocks.specs.Parts.{oddRun, parity, Swapped, spaced, PackedClasses, Unpacked, Classified, Marked, Padded};
+ghost use Rattle.blocks.specs.Parts.{oddRun, parity, Swapped, spaced, PackedClasses, Unpacked, Classified, StringsFound, Padded};
 ghost use Rattle.blocks.specs.Words.{oddBefore};
 ghost use Rattle.blocks.specs.Sorted.{Sorted};
 ghost use Rattle.blocks.specs.Counts.{countedOf, SortedCounted};
@@ -38,7 +38,7 @@ struct Classes {
 }
 
 // The quotes that are real, the places inside strings, and whether an odd run of backslashes is last.
-struct Marks {
+struct Strings {
     quotes: u64,
     strings: u64,
     odd: bool,
@@ -185,11 +185,11 @@ fn spread(b: bool) -> u64
 }
 
 // Takes quotes that no odd run escapes, and the parity of these. Where neither quote nor backslash stands, a string or none goes on.
-fn mark(quotes: u64, backslashes: u64, inside: bool, odd: bool) -> Marks
-    ensures { λ r. ⌜ Marked quotes backslashes inside odd (r .quotes) (r .strings) (r .odd) ⌝ }
+fn find_strings(quotes: u64, backslashes: u64, inside: bool, odd: bool) -> Strings
+    ensures { λ r. ⌜ StringsFound quotes backslashes inside odd (r .quotes) (r .strings) (r .odd) ⌝ }
 {
     if quotes | backslashes == 0 {
-        return Marks {
+        return Strings {
             quotes: 0,
             strings: spread(inside),
             odd: false,
@@ -197,7 +197,7 @@ fn mark(quotes: u64, backslashes: u64, inside: bool, odd: bool) -> Marks
     }
     let e = escaped(backslashes, odd);
     let real = quotes & (e ^ ALL);
-    Marks {
+    Strings {
         quotes: real,
         strings: prefix_xor(real) ^ spread(inside),
         odd: has(backslashes & (e ^ ALL), LAST),
@@ -223,7 +223,7 @@ pub fn sort_full(rest: &[u8], inside: bool, odd: bool) -> Counted
     ensures { λ r. ⌜ SortedCounted (now (rest .entry)) inside odd r ⌝ }
 {
     let c = classify(rest);
-    let k = mark(c.quotes, c.backslashes, inside, odd);
+    let k = find_strings(c.quotes, c.backslashes, inside, odd);
     let outside = k.strings ^ ALL;
     let words = Words {
         quotes: k.quotes,

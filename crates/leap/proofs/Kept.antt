@@ -1,6 +1,6 @@
 -- What is kept of a block tells where a container is left: the opening bracket just before `at`, outside strings, shows that neither a string
 -- nor an odd run of backslashes reaches `at`, so the words from there on are those of the definition. Assumes nothing.
-use mathlib.Core.Path.{_≡_, refl, sym, ap, ap₂, subst, _∙_}
+use mathlib.Core.Path.{_≡_, refl, sym, ap, subst, _∙_}
 use mathlib.Core.Bool.{Bool, true, false, not, _&&_, _||_, false≢true, and-eq-true-iff}
 use mathlib.Core.List.{List}
 use mathlib.Core.Logic.{⊎-elim}
@@ -19,7 +19,7 @@ use Rattle.blocks.specs.Sorted.{Sorted}
 use Rattle.blocks.specs.declared.Words.{Words}
 use Rattle.leap.specs.Brackets.{depthAt, depthIn, Closed}
 use Rattle.leap.specs.BracketLaws.{depth-falls, closed-at, closed-once}
-use Rattle.leap.specs.Passing.{Finds, KeptBlock, Kept, Near}
+use Rattle.leap.specs.Passing.{FindsClosing, KeptBlock, Kept, Near}
 use Rattle.leap.proofs.Ways.{falls-inside, block-opens, word-depth}
 
 -- ---- just behind an opening bracket
@@ -52,7 +52,7 @@ module _ (s : List ℕ) (inside odd : Bool) (near : ℕ) (behind : Carried insid
       (λ j. bit-shr near j (openingWord inside odd s)) (λ j. bit-shr near j (closingWord inside odd s))
       1
 
-  module _ {place after : ℕ} (f : Finds (openingWord inside odd s / 2 ^ near) (closingWord inside odd s / 2 ^ near) 1 place after) (small : place < 64) where
+  module _ {place after : ℕ} (f : FindsClosing (openingWord inside odd s / 2 ^ near) (closingWord inside odd s / 2 ^ near) 1 place after) (small : place < 64) where
     -- the bracket that was found stands in the block
     in-block : near + place < 64
     in-block = ⊎-elim
@@ -112,7 +112,7 @@ block-kept s kept i {inside} {odd} {w} sorted k =
 
 -- the block that ends at `end` and has the opening bracket just before `at`
 module _ (end opening closing at near : ℕ) (before : at < end) (in-it : end - at < 64) (near-is : near ≡ 64 - (end - at))
-    (opens : bit (near - 1) opening ≡ true) {place after : ℕ} (f : Finds (opening / 2 ^ near) (closing / 2 ^ near) 1 place after) (small : place < 64) where
+    (opens : bit (near - 1) opening ≡ true) {place after : ℕ} (f : FindsClosing (opening / 2 ^ near) (closing / 2 ^ near) 1 place after) (small : place < 64) where
   module _ {s : List ℕ} (b : KeptBlock s (end) (opening) (closing)) where
     place-is : b .start + near ≡ at
     place-is = omega (arith, b .end-is)
@@ -131,13 +131,13 @@ module _ (end opening closing at near : ℕ) (before : at < end) (in-it : end - 
     closes-here =
         subst (λ (x : List ℕ). Closed false false x 1 (suc place)) here
         (closes-there (drop (b .start) s) (b .inside) (b .odd) near behind
-        (subst (λ (x : ℕ). Finds (x / 2 ^ near) (closingWord (b .inside) (b .odd) (drop (b .start) s) / 2 ^ near) 1 place after) (b .opening-are)
-        (subst (λ (x : ℕ). Finds (opening / 2 ^ near) (x / 2 ^ near) 1 place after) (b .closing-are) f))
+        (subst (λ (x : ℕ). FindsClosing (x / 2 ^ near) (closingWord (b .inside) (b .odd) (drop (b .start) s) / 2 ^ near) 1 place after) (b .opening-are)
+        (subst (λ (x : ℕ). FindsClosing (opening / 2 ^ near) (x / 2 ^ near) 1 place after) (b .closing-are) f))
         small)
 
-  pub near-leads : (kept : List ℕ) → end ≡ getD kept 0 0 → opening ≡ getD kept 1 0 → closing ≡ getD kept 2 0 → Near kept at (at + place + 1)
-  near-leads kept p q r = record {
-    leads = λ s k _.
+  pub near-after : (kept : List ℕ) → end ≡ getD kept 0 0 → opening ≡ getD kept 1 0 → closing ≡ getD kept 2 0 → Near kept at (at + place + 1)
+  near-after kept p q r = record {
+    is-after = λ s k _.
         (let c = closes-here {s = s} (rw (p, q, r) (k .block (λ z. omega arith))) in
         record {
           onward = omega arith;

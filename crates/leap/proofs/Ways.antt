@@ -24,7 +24,7 @@ use Rattle.json.specs.Grammar.{putItems}
 use Rattle.leap.specs.Brackets.{depthAt, depthIn, Closed, Leaves}
 use Rattle.leap.specs.BracketLaws.{depth-none-at, depth-falls, depth-same, depth-drop, closed-at, closed-once}
 use Rattle.leap.specs.ContainerEnds.{items-closed}
-use Rattle.leap.specs.Passing.{Apart, Finds, Leads}
+use Rattle.leap.specs.Passing.{NotBoth, FindsClosing, AfterClosing}
 
 -- ---- what holds at a place
 
@@ -79,7 +79,7 @@ tracked-start {s} {at} =
 
 module _ {s : List ℕ} {at i : ℕ} {inside odd : Bool} {n : ℕ} (v : Tracked s at i inside odd n) where
   -- the record ends first
-  pub tracked-out : length s ≤ i → Leads s at i
+  pub tracked-out : length s ≤ i → AfterClosing s at i
   tracked-out h = record {
     onward = v .onward;
     within = v .within;
@@ -158,7 +158,7 @@ no-both s inside odd j p q =
     (and-eq-true-iff (eqb (byteAt s j) 0x5B || eqb (byteAt s j) 0x7B) (not (inString inside odd s j)) .0 p .0)
     (and-eq-true-iff (eqb (byteAt s j) 0x5D || eqb (byteAt s j) 0x7D) (not (inString inside odd s j)) .0 q .0)
 
-words-apart : (s : List ℕ) (inside odd : Bool) → Apart (openingWord inside odd s) (closingWord inside odd s)
+words-apart : (s : List ℕ) (inside odd : Bool) → NotBoth (openingWord inside odd s) (closingWord inside odd s)
 words-apart s inside odd j p q = ⊎-elim
     (λ (l : j < blockSize s). no-both s inside odd j (sym (opening-bit s inside odd j l) ∙ p) (sym (closing-bit s inside odd j l) ∙ q))
     (λ (l : blockSize s ≤ j). false≢true (sym (opening-past s inside odd j l) ∙ p))
@@ -173,7 +173,7 @@ module _ {s : List ℕ} {at i : ℕ} {inside odd : Bool} {n : ℕ} (v : Tracked 
   pub sorted : Sorted (drop i s) inside odd w
   sorted = rw (take-all (length s - i) (drop i s) (rw (length-drop i s) (omega arith))) at given
 
-  pub apart : Apart (w .opening) (w .closing)
+  pub apart : NotBoth (w .opening) (w .closing)
   apart = rw (sorted .opening-are, sorted .closing-are) (words-apart (drop i s) inside odd)
 
   -- the depth in the block
@@ -184,7 +184,7 @@ module _ {s : List ℕ} {at i : ℕ} {inside odd : Bool} {n : ℕ} (v : Tracked 
       (λ k. ap₂ bit (sym (zero-add k)) (sorted .opening-are)) (λ k. ap₂ bit (sym (zero-add k)) (sorted .closing-are))
       n j (omega arith)
 
-  module _ {place after : ℕ} (f : Finds (w .opening) (w .closing) n place after) where
+  module _ {place after : ℕ} (f : FindsClosing (w .opening) (w .closing) n place after) where
     block-depth : (j : ℕ) → j ≤ 64 → depthAt (λ k. bit k (w .opening)) (λ k. bit k (w .closing)) n j ≡ depthIn false false (drop at s) 1 (i - at + j)
     block-depth j h = depth-here j h ∙ ap (λ (x : List ℕ). depthIn inside odd x n j) (sym (here v)) ∙ stands-on (v .stands) j
 
@@ -195,7 +195,7 @@ module _ {s : List ℕ} {at i : ℕ} {inside odd : Bool} {n : ℕ} (v : Tracked 
         (sym (depth-here place (omega arith)) ∙ f .found h .0)
         (ap (depthIn inside odd (drop i s) n) (sym (add-one place)) ∙ sym (depth-here (place + 1) (omega arith)) ∙ f .found h .1)
 
-    pub block-found : i < length s → place < 64 → Leads s at (i + place + 1)
+    pub block-found : i < length s → place < 64 → AfterClosing s at (i + place + 1)
     block-found in-it h =
         let l = in-record h in
         let x : depthIn false false (drop at s) 1 (i - at + place) ≡ 1 = sym (block-depth place (omega arith)) ∙ f .found h .0 in
@@ -213,7 +213,7 @@ module _ {s : List ℕ} {at i : ℕ} {inside odd : Bool} {n : ℕ} (v : Tracked 
     still-open h = sym (block-depth 64 (omega arith)) ∙ f .none h .1
 
     -- the record ends in this block
-    pub block-last : i < length s → 64 ≤ place → length s - i < 64 → Leads s at (length s)
+    pub block-last : i < length s → 64 ≤ place → length s - i < 64 → AfterClosing s at (length s)
     unfolding depthIn
     block-last in-it h l = record {
       onward = omega (arith, v .onward);
@@ -260,8 +260,8 @@ module _ {s : List ℕ} {at i : ℕ} {inside odd : Bool} {n : ℕ} (v : Tracked 
 
 -- ---- a container
 
-pub leads-leaves : {s : List ℕ} {at r : ℕ} → Leads s at r → Leaves s at r
-leads-leaves {s} {at} {r} l = record {
+pub after-leaves : {s : List ℕ} {at r : ℕ} → AfterClosing s at r → Leaves s at r
+after-leaves {s} {at} {r} l = record {
   onward = l .onward;
   within = l .within;
   exact = λ k is rest e. l .exact (length (putItems is [])) (items-closed is (drop at s) rest e);

@@ -3,7 +3,7 @@
 use mathlib.Core.Path.{_≡_, refl, sym, ap, ap₂, _∙_}
 use mathlib.Core.Bool.{Bool, true, false, xor, _||_, false≢true}
 use mathlib.Core.Logic.{⊎-elim}
-use Prim.Native.Nat.{ℕ, zero, suc, _+_, _-_, _*_, _/_, _%_, _^_, _<_, _≤_}
+use Prim.Native.Nat.{ℕ, zero, suc, _+_, _-_, _*_, _%_, _^_, _<_, _≤_}
 use native.Mathlib.Numerals.{add-one}
 use native.Mathlib.Omega.{arith}
 use lib.Bits.{bitXor, bitOr, xor-lt}
@@ -14,7 +14,7 @@ use Rattle.bits.specs.Laws.{lt-or-ge, bit-or, bit-xor, bit-zero, bit-alone, num
 use Rattle.bits.specs.Truth.{xor-false, neither, or-second}
 use Rattle.leap.specs.Brackets.{afterPlace, depthAt}
 use Rattle.leap.specs.BracketLaws.{after-le, depth-quiet-to}
-use Rattle.leap.specs.Passing.{Cleared, Apart, Finds}
+use Rattle.leap.specs.Passing.{Cleared, NotBoth, FindsClosing}
 
 -- ---- one bit less
 
@@ -72,8 +72,8 @@ counted f g x (suc m) n h =
     step false true (suc n) x h r = r n (omega arith) ∙ omega arith
     step false false (suc n) x h r = r (suc n) (omega arith) ∙ omega arith
 
-pub passed-counted : {a b n opened closed : ℕ} → a < 2 ^ 64 → b < 2 ^ 64 → Apart a b → opened ≡ ones a → closed ≡ ones b → closed < n
-    → Finds a b n 64 (n + opened - closed)
+pub passed-counted : {a b n opened closed : ℕ} → a < 2 ^ 64 → b < 2 ^ 64 → NotBoth a b → opened ≡ ones a → closed ≡ ones b → closed < n
+    → FindsClosing a b n 64 (n + opened - closed)
 passed-counted {a} {b} {n} {opened} {closed} fa fb apart o c h =
     let x : opened ≡ countOn 64 (λ j. bit j a) = o ∙ ones-bits a fa in
     let y : closed ≡ countOn 64 (λ j. bit j b) = c ∙ ones-bits b fb in
@@ -140,7 +140,7 @@ module _ {a b n left level : ℕ} (v : Counting a b n left level) where
       depth-quiet-to (λ j. bit j a) (λ j. bit j b) n (v .upto) i h (λ j l r. neither (bit j a) (bit j b) (sym (v .rest j l) ∙ none j r)) ∙ v .level-is
 
   -- nothing is left
-  pub counting-none : left ≡ 0 → Finds a b n 64 level
+  pub counting-none : left ≡ 0 → FindsClosing a b n 64 level
   counting-none z = record {
     small = omega arith;
     few = omega (arith, v .few, v .small);
@@ -186,7 +186,7 @@ module _ {a b n left level : ℕ} (v : Counting a b n left level) where
           ap (afterPlace (bit i a) (bit i b)) level-before ∙ one-of-two (bit i a) (bit i b) level closes ∙ sym next
 
       -- none: it is the one that is looked for
-      pub counting-found : level′ ≡ 0 → Finds a b n i 0
+      pub counting-found : level′ ≡ 0 → FindsClosing a b n i 0
       counting-found z = record {
         small = omega (arith, next-lt);
         few = omega arith;

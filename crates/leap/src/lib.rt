@@ -14,7 +14,7 @@ ghost use Rattle.bits.specs.Bits.{bit};
 ghost use Rattle.blocks.specs.Counts.{countedOf, SortedCounted};
 ghost use Rattle.json.specs.Verdict.{maxBytes};
 ghost use Rattle.leap.specs.Brackets.{afterPlace, Leaves};
-ghost use Rattle.leap.specs.Passing.{Cleared, Apart, Finds, Leads, Kept, Near};
+ghost use Rattle.leap.specs.Passing.{Cleared, NotBoth, FindsClosing, AfterClosing, Kept, Near};
 
 const BLOCK: usize = 64;
 
@@ -61,7 +61,7 @@ fn next_level(opening: u64, i: usize, level: usize) -> usize
 // Finds the bracket that closes the last of `depth` open ones, bracket by bracket.
 fn find_closing(opening: u64, closing: u64, depth: usize) -> Found
     requires { ⌜ (1 ≤ depth) × (depth ≤ maxBytes + 1) ⌝ }
-    ensures { λ r. ⌜ Finds opening closing depth (r .place) (r .depth) ⌝ }
+    ensures { λ r. ⌜ FindsClosing opening closing depth (r .place) (r .depth) ⌝ }
 {
     let mut left = opening | closing;
     let mut level = depth;
@@ -82,8 +82,8 @@ fn find_closing(opening: u64, closing: u64, depth: usize) -> Found
 // The same in a block whose brackets are counted: with fewer closing brackets than are open it is passed whole.
 fn pass_block(block: Counted, depth: usize) -> Found
     requires { ⌜ (1 ≤ depth) × (depth ≤ maxBytes + 1) ⌝ }
-    requires { ⌜ (block ≡ countedOf (block .words)) × Apart (block .words .opening) (block .words .closing) ⌝ }
-    ensures { λ r. ⌜ Finds (block .words .opening) (block .words .closing) depth (r .place) (r .depth) ⌝ }
+    requires { ⌜ (block ≡ countedOf (block .words)) × NotBoth (block .words .opening) (block .words .closing) ⌝ }
+    ensures { λ r. ⌜ FindsClosing (block .words .opening) (block .words .closing) depth (r .place) (r .depth) ⌝ }
 {
     let opened = block.opened as usize;
     let closed = block.closed as usize;
@@ -136,7 +136,7 @@ pub fn none_kept() -> [u64; KEPT]
 fn leave_blocks(record: &[u8], at: usize, kept: &mut [u64; KEPT]) -> usize
     requires { ⌜ length (now «record») ≤ maxBytes ⌝ }
     requires { ⌜ Kept (now «record») (now kept) ⌝ }
-    ensures { λ r. ⌜ Leads (now («record» .entry)) at r ⌝ }
+    ensures { λ r. ⌜ AfterClosing (now («record» .entry)) at r ⌝ }
     ensures { λ _. ⌜ Kept (now («record» .entry)) (now (kept .exit)) ⌝ }
 {
     let mut i = at;

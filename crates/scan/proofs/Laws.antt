@@ -1,7 +1,7 @@
 -- From runs of bytes to parts of the grammar: where a run of the right kind starts, the part that stands there is the run. Assumes nothing.
 use mathlib.Core.Path.{_≡_, refl, sym, ap, ap₂, _∙_}
 use mathlib.Core.List.{List, [], _∷_, _++_}
-use mathlib.Core.Bool.{Bool, true, false, not, _&&_, false≢true, and-false, and-eq-true-iff}
+use mathlib.Core.Bool.{Bool, true, false, not, false≢true, and-false, and-eq-true-iff}
 use Prim.Native.Nat.{ℕ, suc, _+_, _-_, _≤_, _<_}
 use native.Mathlib.Numerals.{add-one, add-two}
 use native.Mathlib.Omega.{arith}
