@@ -5,7 +5,7 @@ use mathlib.Core.Logic.{_↔_, _⊎_, inl, inr, ⊎-map}
 use mathlib.Core.List.{List, [], _∷_}
 use mathlib.Core.Bool.{Bool, true, false, _&&_, _||_, Bool·beq, false≢true, and-eq-true-iff}
 use mathlib.Core.Option.{Option, some, none}
-use Prim.Native.Nat.{ℕ, zero, suc, _+_, _≤_, _<_}
+use Prim.Native.Nat.{ℕ, zero, suc, _≤_, _<_}
 use native.Mathlib.Omega.{arith}
 use borrow.Author.Tests.{ltb-true, ltb-false, lt-ltb}
 use lib.Dec.{ltb}
@@ -37,10 +37,10 @@ module _ (q : List Step) (i : ℕ) where
       let both = and-eq-true-iff (ltb i (length q)) (picks (take i q) []) in
       (λ e. (ltb-true i (length q) (both .0 e .0), both .0 e .1), λ h. both .1 (lt-ltb i (length q) (h .0), h .1))
 
-  abbrev pub Kept : Way → Type 0
-  Kept w = (isDeep (getElem? q i) ≡ true) × (mark q i w ≡ true)
+  abbrev pub ByDeepStep : Way → Type 0
+  ByDeepStep w = (isDeep (getElem? q i) ≡ true) × (mark q i w ≡ true)
 
-  pub mark-below : (l : Label) (w : Way) → (mark q i (l ∷ w) ≡ true) ↔ ((i < length q) × ((picks (take i q) (l ∷ w) ≡ true) ⊎ Kept w))
+  pub mark-below : (l : Label) (w : Way) → (mark q i (l ∷ w) ≡ true) ↔ ((i < length q) × ((picks (take i q) (l ∷ w) ≡ true) ⊎ ByDeepStep w))
   unfolding mark
   mark-below l w = (
     λ e.
@@ -50,7 +50,7 @@ module _ (q : List Step) (i : ℕ) where
         both .1 (lt-ltb i (length q) (h .0), either .1 (⊎-map (λ x. x) (kept .1) (h .1))),
   )
     where
-      kept : ((isDeep (getElem? q i) && mark q i w) ≡ true) ↔ Kept w
+      kept : ((isDeep (getElem? q i) && mark q i w) ≡ true) ↔ ByDeepStep w
       kept = and-eq-true-iff (isDeep (getElem? q i)) (mark q i w)
 
       either :
@@ -76,7 +76,7 @@ module _ (q : List Step) (i : ℕ) where
     way-marked start e = let (h, p) = mark-top .0 e in M.picked h (picked-from r (take i q) r .1 ([], start, p))
     way-marked (down {m} {n} {w} l p c) e = let (h, x) = mark-below l w .0 e in go h x (λ e′. way-marked p e′)
       where
-        go : i < length q → (picks (take i q) (l ∷ w) ≡ true) ⊎ Kept w → (mark q i w ≡ true → Mark r q i m) → Mark r q i n
+        go : i < length q → (picks (take i q) (l ∷ w) ≡ true) ⊎ ByDeepStep w → (mark q i w ≡ true → Mark r q i m) → Mark r q i n
         go h (inl x) up = M.picked h (picked-from r (take i q) n .1 (l ∷ w, down l p c, x))
         go h (inr x) up = M.kept l h (deep-is (getElem? q i) .1 (x .0)) (up (x .1)) c
 
@@ -142,19 +142,11 @@ same-marks-is r q {w} {w′} {p} {n} x y = (
       (λ m. mark-is q i r y .1 (sym same ∙ mark-is q i r x .0 m), λ m. mark-is q i r x .1 (same ∙ mark-is q i r y .0 m)),
 )
 
--- a container costs no frame where all marks are those of the container around it, and one where they are not
+-- a container costs no frame where all marks are those of the container around it
 module _ (q : List Step) (l : Label) (w : Way) where
   pub frames-same : ((i : ℕ) → mark q i w ≡ mark q i (l ∷ w)) → frames q (l ∷ w) ≡ frames q w
   unfolding frames frameIf
   frames-same h = ap (λ (b : Bool). frameIf b (frames q w)) (all-marks q w (l ∷ w) .1 h)
-
-  pub frames-differ : (((i : ℕ) → mark q i w ≡ mark q i (l ∷ w)) → ⊥) → frames q (l ∷ w) ≡ frames q w + 1
-  unfolding frames frameIf
-  frames-differ h = go (sameMarks q (length q) w (l ∷ w)) refl
-    where
-      go : (b : Bool) → sameMarks q (length q) w (l ∷ w) ≡ b → frameIf b (frames q w) ≡ frames q w + 1
-      go true e = absurd (h (all-marks q w (l ∷ w) .0 e))
-      go false e = refl
 
 -- the root is picked out when there are no steps
 pub root-picked : (t : Tree) (q : List Step) → Picked t q (root t) ↔ (q ≡ [])

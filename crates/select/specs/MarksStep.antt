@@ -153,11 +153,6 @@ picks-top (s ∷ q) = go (picks (s ∷ q) []) refl ∙ sym (eqb·suc-zero (lengt
     go true e = absurd (cons≢nil (picks-root (s ∷ q) e))
     go false e = e
 
--- without steps no child is picked out
-pub picks-none : (l : Label) (w : Way) → picks [] (l ∷ w) ≡ false
-unfolding picks picksBack
-picks-none l w = refl
-
 -- a mark is less than the number of steps
 pub mark-less : (q : List Step) (i : ℕ) (w : Way) → mark q i w ≡ true → i < length q
 mark-less q i w e = go (ltb i (length q)) refl
