@@ -12,9 +12,12 @@ use lib.ListN.{length}
 use lib.Pow.{shl-exact}
 use Rattle.bits.specs.Bits.{bit, number}
 use Rattle.bits.specs.Laws.{bit-and, bit-not, number-of, number-is}
-use Rattle.blocks.specs.Words.{isBackslash, oddBefore, realQuote, oddQuotes, inString, opensAt, closesAt, blockSize, quotesWord, stringsWord, openingWord, closingWord, insideAfter, oddAfter}
+use Rattle.blocks.specs.Words.{oddBefore, realQuote, oddQuotes, inString, opensAt, closesAt, blockSize, quotesWord, stringsWord, openingWord, closingWord, insideAfter, oddAfter}
+use Rattle.classifier.specs.Classes.{isBackslash}
 use Rattle.blocks.specs.Laws.{size-full, size-short, inside-full, odd-full, quotes-bit, strings-bit, opening-bit, closing-bit, quote-same, quotes-same, string-same, opens-same, closes-same, oddQuotes-past}
-use Rattle.blocks.specs.Parts.{oddRun, parity, isOpening, isClosing, Classified, StringsFound, Padded}
+use Rattle.blocks.specs.Parts.{oddRun, parity, StringsFound, Padded}
+use Rattle.classifier.specs.Classes.{isOpening, isClosing}
+use Rattle.classifier.specs.Packed.{Classified}
 use Rattle.blocks.specs.Sorted.{Sorted}
 use Rattle.blocks.specs.declared.Words.{Words}
 use Rattle.blocks.proofs.Escape.{all-ones}

@@ -14,7 +14,8 @@ use lib.Bits.{bitOr}
 use Rattle.bits.specs.Bits.{bit, Lowest}
 use Rattle.bits.specs.Laws.{lt-or-ge, bit-or, bit-number, number-high}
 use Rattle.bits.specs.Truth.{neither, false-xor, true-xor}
-use Rattle.blocks.specs.Words.{byteAt, isBackslash, oddBefore, realQuote, oddQuotes, inString, opensAt, closesAt, blockSize, quotesWord, stringsWord, openingWord, closingWord, insideAfter, oddAfter}
+use Rattle.blocks.specs.Words.{oddBefore, realQuote, oddQuotes, inString, opensAt, closesAt, blockSize, quotesWord, stringsWord, openingWord, closingWord, insideAfter, oddAfter}
+use Rattle.classifier.specs.Classes.{byteAt, isBackslash}
 
 -- ---- the size of a block
 

@@ -13,7 +13,8 @@ use lib.Seq.{drop-drop, getD-set-same, getD-set-other}
 use borrow.Author.Tests.{eqb-true, not-true}
 use Rattle.bits.specs.Bits.{bit}
 use Rattle.bits.specs.Laws.{lt-or-ge, bit-shr}
-use Rattle.blocks.specs.Words.{byteAt, isBackslash, oddBefore, inString, opensAt, openingWord, closingWord}
+use Rattle.blocks.specs.Words.{oddBefore, inString, opensAt, openingWord, closingWord}
+use Rattle.classifier.specs.Classes.{byteAt, isBackslash}
 use Rattle.blocks.specs.Laws.{Carried, opening-past, closing-past, size-le}
 use Rattle.blocks.specs.Sorted.{Sorted}
 use Rattle.blocks.specs.declared.Words.{Words}

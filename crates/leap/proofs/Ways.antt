@@ -14,7 +14,8 @@ use lib.Seq.{drop-drop, take-all}
 use borrow.Author.Tests.{eqb-true}
 use Rattle.bits.specs.Bits.{bit}
 use Rattle.bits.specs.Laws.{lt-or-ge}
-use Rattle.blocks.specs.Words.{byteAt, oddBefore, oddQuotes, inString, opensAt, closesAt, blockSize, openingWord, closingWord}
+use Rattle.blocks.specs.Words.{oddBefore, oddQuotes, inString, opensAt, closesAt, blockSize, openingWord, closingWord}
+use Rattle.classifier.specs.Classes.{byteAt}
 use Rattle.blocks.specs.Laws.{Carried, size-full, size-short, inside-full, odd-full, opening-bit, closing-bit, opening-past, closing-past, odd-drop, quotes-drop, opens-drop, closes-drop}
 use Rattle.blocks.specs.Counts.{countedOf, SortedCounted}
 use Rattle.blocks.specs.Sorted.{Sorted}

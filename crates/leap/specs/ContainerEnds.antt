@@ -7,7 +7,8 @@ use native.Mathlib.Nat.{zero-add}
 use native.Mathlib.Omega.{arith}
 use lib.Dec.{eqb}
 use lib.ListN.{length, drop}
-use Rattle.blocks.specs.Words.{byteAt, inString, opensAt, closesAt}
+use Rattle.blocks.specs.Words.{inString, opensAt, closesAt}
+use Rattle.classifier.specs.Classes.{byteAt}
 use Rattle.blocks.specs.Laws.{Carried, carried-string}
 use Rattle.encoding.specs.Bytes.{Blanks, putBlanks}
 use Rattle.json.specs.Grammar as G

@@ -10,7 +10,8 @@ use lib.ListN.{drop, getD}
 use borrow.Author.Tests.{eq-eqb, ne-eqb}
 use Rattle.bits.specs.Truth.{truth, xor-false, false-xor}
 use Rattle.blocks.specs.Laws.{backslash-drop}
-use Rattle.blocks.specs.Words.{byteAt, isBackslash, oddBefore}
+use Rattle.blocks.specs.Words.{oddBefore}
+use Rattle.classifier.specs.Classes.{byteAt, isBackslash}
 
 xor-not : (x y : Bool) → xor x (not y) ≡ xor (not x) y
 unfolding xor

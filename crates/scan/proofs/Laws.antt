@@ -11,7 +11,8 @@ use lib.Seq.{slice, drop-drop, take-append-seam}
 use borrow.Author.Tests.{ltb-true, ltb-false, not-true, ne-eqb}
 use Rattle.bits.specs.Truth.{neither}
 use Rattle.blocks.specs.Laws.{odd-drop}
-use Rattle.blocks.specs.Words.{byteAt, isBackslash, oddBefore}
+use Rattle.blocks.specs.Words.{oddBefore}
+use Rattle.classifier.specs.Classes.{byteAt, isBackslash}
 use Rattle.encoding.specs.Class.{classOf}
 use Rattle.encoding.specs.Bytes.{Blanks, putBlanks, putIn}
 use Rattle.json.specs.Append.{blanks-split, length-blanks, value-split, length-value, value-positive, append-chars, chars-split, length-chars}

@@ -1,13 +1,12 @@
 -- Walks with different states visit the same nodes: a map of states that goes with the steps goes with the visits.
 -- By induction on the value, item by item. Assumes nothing.
 use mathlib.Core.Path.{_≡_, refl, sym, ap, ap₂, _∙_}
-use mathlib.Core.List.{List, [], _∷_, _++_, map, map-append}
+use mathlib.Core.List.{List, _∷_, _++_, map, map-append}
 use Prim.Native.Nat.{ℕ, _+_}
-use native.Mathlib.Omega.{arith}
 use lib.ListN.{length}
 use Rattle.json.specs.Grammar.{Kind, Value, literal, number, string, container, Items, empty, items, More, end, more}
-use Rattle.select.specs.Nodes.{Label, Node, size, keySize, labelOf}
-use Rattle.select.specs.Visits.{Visit, visit, visits, itemsVisits, moreVisits, nodeVisits, Way, step}
+use Rattle.select.specs.Nodes.{Label, size, keySize, labelOf}
+use Rattle.select.specs.Visits.{Visit, visit, visits, itemsVisits, moreVisits}
 
 -- an image of two lists is the images one after the other
 images : {A B : Type 0} (f : A → B) (xs ys : List A) {xs′ ys′ : List B} → xs′ ≡ map f xs → ys′ ≡ map f ys → xs′ ++ ys′ ≡ map f (xs ++ ys)

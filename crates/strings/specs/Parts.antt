@@ -13,7 +13,8 @@ use lib.ListN.{length, drop}
 use borrow.Author.Tests.{eqb-false, not-true}
 use Rattle.bits.specs.Laws.{lt-or-ge}
 use Rattle.bits.specs.Truth.{neither}
-use Rattle.blocks.specs.Words.{byteAt, oddQuotes, inString, opensAt, closesAt}
+use Rattle.blocks.specs.Words.{oddQuotes, inString, opensAt, closesAt}
+use Rattle.classifier.specs.Classes.{byteAt}
 use Rattle.blocks.specs.Laws.{Carried, carry-plain, carry-backslash, carry-escaped, carry-quote, carried-string}
 use Rattle.json.specs.Grammar.{Char, putChars, putString}
 use Rattle.json.specs.Append.{chars-split, length-chars}

@@ -6,7 +6,7 @@ use Prim.Native.Nat.{ℕ, suc, _+_}
 use native.Mathlib.Omega.{arith}
 use native.Mathlib.Numerals.{add-one}
 use lib.ListN.{length, drop}
-use Rattle.blocks.specs.Words.{byteAt}
+use Rattle.classifier.specs.Classes.{byteAt}
 use Rattle.blocks.specs.Laws.{Carried, carry-plain}
 use Rattle.encoding.specs.Bytes.{Blanks, putBlanks}
 use Rattle.json.specs.Grammar as G

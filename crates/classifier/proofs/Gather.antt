@@ -12,8 +12,8 @@ use borrow.Author.Tests.{le-leb, lt-leb, eq-eqb, ne-eqb}
 use Rattle.bits.specs.Bits.{bit}
 use Rattle.bits.specs.Laws.{lt-or-ge, bit-or, bit-shl, shifted-is}
 use Rattle.bits.specs.Word.{Loaded}
-use Rattle.blocks.specs.Words.{byteAt}
-use Rattle.blocks.specs.Parts.{column, Packed}
+use Rattle.classifier.specs.Classes.{byteAt}
+use Rattle.classifier.specs.Packed.{column, Packed}
 
 column-even : (g : ℕ → Bool) (k j i : ℕ) → j % 2 ≡ 0 → 8 * j + k ≡ i → column g k j ≡ g i
 unfolding column
