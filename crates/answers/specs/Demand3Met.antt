@@ -18,7 +18,8 @@ use Rattle.query.specs.Grammar as Q
 use Rattle.query.specs.Verdict.{maxQueryBytes, maxSteps}
 use Rattle.select.specs.Nodes.{Node}
 use Rattle.select.specs.Ways.{spanOf, spans}
-use Rattle.answers.specs.Enumerates.{Enumerates, enumerates-spans}
+use Rattle.answers.specs.Enumerates.{Enumerates}
+use Rattle.answers.specs.EnumeratesLaws.{enumerates-spans}
 use Rattle.answers.specs.Demand3.{Given}
 use Rattle.answers.specs.Table.{Row, old, table}
 

@@ -24,7 +24,8 @@ use Rattle.select.specs.Order.{node-unique}
 use Rattle.select.specs.Stands.{node-bytes}
 use Rattle.answers.specs.Lister.{orElse}
 use Rattle.answers.specs.Finder.{endAmong, endAt, endIn, offsetVerdict, findVerdict, orZero, endIf, findEnd, Finds, valuePart, startIf, partStart}
-use Rattle.answers.specs.Within.{RecordIs, record-is-taken, record-tree}
+use Rattle.answers.specs.Within.{RecordIs}
+use Rattle.answers.specs.WithinLaws.{record-is-taken, record-tree}
 use Rattle.answers.specs.ListerIs.{refuses-first}
 use Rattle.answers.specs.FinderSays.{Begins, FinderSays, recordRefused, noValue, found, ReaderSays, nothing, value}
 

@@ -4,10 +4,13 @@ pub mod Finder
 pub mod Outcome
 pub mod Table
 pub mod Enumerates
+pub mod EnumeratesLaws
 pub mod Within
+pub mod WithinLaws
 pub mod ListerSays
 pub mod ListerIs
 pub mod Demand3
+pub mod Demand3Holds
 pub mod Demand3Met
 pub mod FinderSays
 pub mod FinderIs

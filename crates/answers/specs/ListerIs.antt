@@ -1,7 +1,7 @@
 -- What a lister answers by computing is what document 01 says of its arguments, ground by ground, and nothing else is said of them.
 -- The verdicts are those that the grammars give, a text has one tree, and the nodes picked out make one list. Assumes nothing.
 use mathlib.Core.Path.{_≡_, refl, sym, ap, subst, _∙_}
-use mathlib.Core.List.{List, [], _∷_, _++_, map}
+use mathlib.Core.List.{List, [], _∷_, _++_, map, map-append}
 use mathlib.Core.Bool.{Bool, true, false}
 use Prim.Native.Nat.{ℕ, zero, suc, _*_, _≤_, _<_}
 use native.Mathlib.Omega.{arith}
@@ -22,14 +22,22 @@ use Rattle.query.specs.Says.{querySays, query-says-only}
 use Rattle.select.specs.Nodes.{Node, endOf}
 use Rattle.select.specs.Marks.{Peak}
 use Rattle.select.specs.Ways.{Span, spanOf, peak}
-use Rattle.select.specs.VisitsMap.{map-append}
 use Rattle.select.specs.PeakIs.{peak-is, peak-unique}
 use Rattle.answers.specs.Lister.{orElse, inputVerdict, spansOf, spansIn, peakOf, peakIn, pairsOf, listVerdict, writtenIf, peakIf, flat, Lists}
 use Rattle.answers.specs.Lister as lister
-use Rattle.answers.specs.Outcome.{Outcome, outcome, taken, refused, answered, lists-outcome}
-use Rattle.answers.specs.Enumerates.{Enumerates, enumeration, enumerates-spans}
-use Rattle.answers.specs.Within.{QueryIs, RecordIs, query-is-taken, query-steps, record-is-taken, record-tree}
+use Rattle.answers.specs.Outcome.{Outcome, outcome, done, refused, answered}
+use Rattle.answers.specs.Enumerates.{Enumerates}
+use Rattle.answers.specs.EnumeratesLaws.{enumeration, enumerates-spans}
+use Rattle.answers.specs.Within.{QueryIs, RecordIs}
+use Rattle.answers.specs.WithinLaws.{query-is-taken, query-steps, record-is-taken, record-tree}
 use Rattle.answers.specs.ListerSays.{numbers, holding, ListerSays, queryRefused, recordRefused, leftOver, all}
+
+-- what meets a lister's promise is the outcome by computing
+pub lists-outcome : {query text list after : List ℕ} {g p n k : ℕ} → Lists query text list after g p n k
+    → answered g p n k after ≡ outcome query text list
+unfolding outcome
+lists-outcome x =
+    λ i. record { ground = x .ground-is i; place = x .place-is i; pairs = x .pairs-are i; peak = x .peak-is i; after = x .list-is i }
 
 -- an outcome by the verdict, the pairs that are written and the peak
 abbrev ending : Verdict → (written : List Span) → (peak : ℕ) → (list : List ℕ) → Outcome
@@ -116,7 +124,7 @@ module _ {query text : List ℕ} {q : Query} {t : Tree} (hq : QueryIs query q) (
       ∙ rw (written-nodes before list, length-map before spanOf) refl
 
   outcome-all : (ns : List Node) → Enumerates t (stepsOf q) ns → length ns ≤ pairsOf list → (k : ℕ) → Peak t (stepsOf q) k →
-      outcome query text list ≡ taken (length ns) k (holding ns list)
+      outcome query text list ≡ done (length ns) k (holding ns list)
   unfolding lister.leftOver peakIf
   outcome-all ns x h k p =
       let l : length (map spanOf ns) ≤ pairsOf list = omega (arith, length-map ns spanOf) in

@@ -12,7 +12,7 @@ use Rattle.query.specs.Verdict.{QuerySays}
 use Rattle.select.specs.Nodes.{Node, endOf}
 use Rattle.select.specs.Marks.{Peak}
 use Rattle.answers.specs.Lister.{pairsOf}
-use Rattle.answers.specs.Outcome.{Outcome, taken, refused}
+use Rattle.answers.specs.Outcome.{Outcome, done, refused}
 use Rattle.answers.specs.Enumerates.{Enumerates}
 use Rattle.answers.specs.Within.{QueryIs, RecordIs}
 
@@ -41,4 +41,4 @@ pub data ListerSays (query text list : List ℕ) : Outcome → Type 0 where
   -- 0: query and record are taken, and the list has a pair for each node; k is the peak
   all : (q : Query) (t : Tree) → QueryIs query q → RecordIs text t →
       (ns : List Node) → Enumerates t (stepsOf q) ns → length ns ≤ pairsOf list → (k : ℕ) → Peak t (stepsOf q) k →
-      ListerSays query text list (taken (length ns) k (holding ns list))
+      ListerSays query text list (done (length ns) k (holding ns list))

@@ -3,7 +3,7 @@ use mathlib.Core.Path.{_≡_, refl}
 use mathlib.Core.List.{List, [], _∷_, map}
 use Prim.Native.Nat.{ℕ}
 use Rattle.encoding.specs.Ascii.{ascii}
-use Rattle.answers.specs.Outcome.{Outcome, outcome, taken, refused}
+use Rattle.answers.specs.Outcome.{Outcome, outcome, done, refused}
 
 -- a query, a record, a list that held other numbers before, and the outcome
 pub record Row : Type 0 where
@@ -21,30 +21,33 @@ old = 91 ∷ 92 ∷ 93 ∷ 94 ∷ 95 ∷ 96 ∷ 97 ∷ []
 -- the rows with a record of their own
 abbrev pub table : List Row
 table =
-    row (ascii "$") (ascii "7") old (taken 1 0 (0 ∷ 1 ∷ 93 ∷ 94 ∷ 95 ∷ 96 ∷ 97 ∷ [])) ∷
-    row (ascii "$.M") (ascii "{\"M\":1,\"M\":2}") old (taken 2 0 (5 ∷ 6 ∷ 11 ∷ 12 ∷ 95 ∷ 96 ∷ 97 ∷ [])) ∷
-    row (ascii "$..a..b") (ascii "{\"a\":{\"a\":{\"b\":1}}}") old (taken 1 1 (15 ∷ 16 ∷ 93 ∷ 94 ∷ 95 ∷ 96 ∷ 97 ∷ [])) ∷
-    row (ascii "$..*") (ascii "[3,[4]]") old (taken 3 0 (1 ∷ 2 ∷ 3 ∷ 6 ∷ 4 ∷ 5 ∷ 97 ∷ [])) ∷
+    row (ascii "$") (ascii "7") old (done 1 0 (0 ∷ 1 ∷ 93 ∷ 94 ∷ 95 ∷ 96 ∷ 97 ∷ [])) ∷
+    row (ascii "$.M") (ascii "{\"M\":1,\"M\":2}") old (done 2 0 (5 ∷ 6 ∷ 11 ∷ 12 ∷ 95 ∷ 96 ∷ 97 ∷ [])) ∷
+    row (ascii "$..a..b") (ascii "{\"a\":{\"a\":{\"b\":1}}}") old (done 1 1 (15 ∷ 16 ∷ 93 ∷ 94 ∷ 95 ∷ 96 ∷ 97 ∷ [])) ∷
+    row (ascii "$..*") (ascii "[3,[4]]") old (done 3 0 (1 ∷ 2 ∷ 3 ∷ 6 ∷ 4 ∷ 5 ∷ 97 ∷ [])) ∷
     row (ascii "$.*") (ascii "[3,[4]]") (91 ∷ 92 ∷ 93 ∷ []) (refused 7 3 1 (1 ∷ 2 ∷ 93 ∷ [])) ∷
-    row (ascii "$ ['a' ]") (ascii "{\"a\":[]}") old (taken 1 1 (5 ∷ 7 ∷ 93 ∷ 94 ∷ 95 ∷ 96 ∷ 97 ∷ [])) ∷
-    row (ascii "$.lot") (ascii "{\"x\":\"lot\\\":9}\"}") old (taken 0 0 old) ∷
+    row (ascii "$ ['a' ]") (ascii "{\"a\":[]}") old (done 1 1 (5 ∷ 7 ∷ 93 ∷ 94 ∷ 95 ∷ 96 ∷ 97 ∷ [])) ∷
+    row (ascii "$.lot") (ascii "{\"x\":\"lot\\\":9}\"}") old (done 0 0 old) ∷
     row (ascii "$") (ascii "[1,]") old (refused 5 3 0 old) ∷
     row (ascii "$") (ascii "01") old (refused 5 1 0 old) ∷
     []
 
-pub table-holds : map (λ (r : Row). outcome (r .query) (r .text) (r .list)) table ≡ map (λ (r : Row). r .outcome) table
-unfolding outcome
-table-holds = refl
+-- the twelve rows together; what a row says of any record holds of any list too
+pub record StarredRows : Type 0 where
+  -- the nine rows with a record of their own
+  pub own-record : map (λ (r : Row). outcome (r .query) (r .text) (r .list)) table ≡ map (λ (r : Row). r .outcome) table
+  -- "empty", any record: "ground 2, place 0"
+  pub empty-query : (text list : List ℕ) → outcome [] text list ≡ refused 2 0 0 list
+  -- "`$.a` and a blank", any record: "ground 2, place 4"
+  pub blank-at-the-end : (text list : List ℕ) → outcome (ascii "$.a ") text list ≡ refused 2 4 0 list
+  -- "`$[0]`", any record: "ground 2, place 2"
+  pub position : (text list : List ℕ) → outcome (ascii "$[0]") text list ≡ refused 2 2 0 list
 
--- the rows that hold for any record, and any list
-pub empty-query : (t l : List ℕ) → outcome [] t l ≡ refused 2 0 0 l
+pub starred-rows : StarredRows
 unfolding outcome
-empty-query t l = refl
-
-pub blank-at-the-end : (t l : List ℕ) → outcome (ascii "$.a ") t l ≡ refused 2 4 0 l
-unfolding outcome
-blank-at-the-end t l = refl
-
-pub position : (t l : List ℕ) → outcome (ascii "$[0]") t l ≡ refused 2 2 0 l
-unfolding outcome
-position t l = refl
+starred-rows = record {
+  own-record = refl;
+  empty-query = λ text list. refl;
+  blank-at-the-end = λ text list. refl;
+  position = λ text list. refl;
+}

@@ -10,11 +10,11 @@ use lib.ListN.{length, getElem?}
 use Rattle.bits.specs.Bits as B
 use Rattle.bits.specs.Laws.{bit-zero}
 use Rattle.json.specs.Grammar.{Kind, Value, literal, number, string, container, Items, empty, items, More, end, more}
-use Rattle.query.specs.Steps.{Step}
+use Rattle.query.specs.Steps.{Step, isDeep}
 use Rattle.select.specs.Nodes.{Label, Node, size, keySize, labelOf}
 use Rattle.select.specs.MarksStep.{stepHits}
 use Rattle.select.specs.Visits.{visit, visits, itemsVisits, moreVisits}
-use Rattle.select.specs.Ways.{isDeep, frameIf, containerFrames}
+use Rattle.select.specs.Ways.{frameIf, containerFrames}
 use Rattle.automaton.specs.State.{State, nextMark, nextMarks, pickAt, nextPicked, next}
 use Rattle.automaton.specs.Tally.{Tally, listIfPicked, listFrom, listed, raiseFrom, raised, put, tallied}
 use Rattle.automaton.specs.Halves.{tallied-append}

@@ -158,11 +158,6 @@ module _ (w e : ℕ) where
       waits-raised (containerFrames (v .node .value) (v .state .frames)) (listed (v .state .picked) t (v .node))
       (waits-listed (v .state .picked) t (v .node) h)
 
-  pub waits-tallied : (vs : List (Visit State)) (t : Tally) → Waits w (t .used) → Waits w (tallied t vs .used)
-  unfolding tallied
-  waits-tallied [] t h = h
-  waits-tallied (v ∷ vs) t h = waits-tallied vs (put t v) (waits-put t v h)
-
   pub tallied-finish : (vs : List (Visit State)) (t : Tally) → Waits w (t .used) → tallied (finish w e t) vs ≡ finish w e (tallied t vs)
   unfolding tallied
   tallied-finish [] t h = refl

@@ -16,7 +16,8 @@ use Rattle.select.specs.Ways.{Span, spans, peak}
 use Rattle.answers.specs.Lister.{orElse, inputVerdict, spansOf, spansIn, peakOf, peakIn, pairsOf, leftOver, listVerdict}
 use Rattle.answers.specs.Lister.{writtenIf, written, peakIf, flat, ground, place, pairs, peakAnswer, listAfter, Lists}
 use Rattle.answers.specs.Lister as lister
-use Rattle.answers.specs.Within.{RecordIs, record-tree}
+use Rattle.answers.specs.Within.{RecordIs}
+use Rattle.answers.specs.WithinLaws.{record-tree}
 use Rattle.automaton.specs.Tally.{Tally}
 use Rattle.automaton.specs.TallyIs.{stopAt, Whole}
 

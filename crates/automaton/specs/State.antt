@@ -5,11 +5,11 @@ use Prim.Native.Nat.{ℕ, zero, suc}
 use lib.Dec.{eqb}
 use lib.ListN.{length, getElem?}
 use Rattle.bits.specs.Bits.{bit, number}
-use Rattle.query.specs.Steps.{Step}
+use Rattle.query.specs.Steps.{Step, isDeep}
 use Rattle.select.specs.Nodes.{Label}
 use Rattle.select.specs.Visits.{Way}
 use Rattle.select.specs.MarksStep.{stepHits}
-use Rattle.select.specs.Ways.{isDeep, mark, picks, frameIf, frames}
+use Rattle.select.specs.Ways.{mark, picks, frameIf, frames}
 
 pub record State : Type 0 where
   pub marks : ℕ
@@ -18,7 +18,7 @@ pub record State : Type 0 where
 
 -- mark i + 1 of a child: its parent has mark i and step i + 1 takes it, or its parent has mark i + 1 and step i + 2 is deep
 unfoldable pub nextMark : List Step → ℕ → Label → ℕ → Bool
-unfolding bit stepHits isDeep
+unfolding bit stepHits
 nextMark q m l zero = isDeep (getElem? q 0) && bit 0 m
 nextMark q m l (suc i) = (stepHits (getElem? q i) l && bit i m) || (isDeep (getElem? q (suc i)) && bit (suc i) m)
 

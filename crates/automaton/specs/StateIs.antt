@@ -9,14 +9,14 @@ use lib.Dec.{eqb, eqb·suc-zero}
 use lib.ListN.{length, getElem?}
 use Rattle.bits.specs.Bits.{bit, number}
 use Rattle.bits.specs.Laws.{bit-number, number-same}
-use Rattle.query.specs.Steps.{Step}
+use Rattle.query.specs.Steps.{Step, isDeep}
 use Rattle.json.specs.Grammar.{Tree}
 use Rattle.select.specs.Nodes.{Label, root}
-use Rattle.select.specs.MarksStep.{stepHits, mark-root, mark-root-suc, mark-zero, mark-suc, picks-step, picks-root}
+use Rattle.select.specs.MarksStep.{stepHits, mark-root, mark-root-suc, mark-zero, mark-suc, picks-step, picks-top}
 use Rattle.select.specs.MarksAre.{first-marks}
 use Rattle.select.specs.Visits.{Way, step, nodeVisits, nodes}
 use Rattle.select.specs.VisitsMap.{over, visits-map}
-use Rattle.select.specs.Ways.{isDeep, mark, picksBack, picks, sameMarks, frames}
+use Rattle.select.specs.Ways.{mark, picksBack, picks, sameMarks, frames}
 use Rattle.automaton.specs.State.{State, nextMark, nextMarks, pickAt, nextPicked, next, stateAt, start}
 
 no-steps : (q : List Step) → length q ≡ 0 → q ≡ []
@@ -78,21 +78,12 @@ module _ (q : List Step) where
   root-mark zero h = mark-root q ∙ lt-ltb 0 (length q) h
   root-mark (suc i) h = mark-root-suc q i ∙ sym (eqb·suc-zero i)
 
-  root-picked : picks q [] ≡ eqb (length q) 0
-  unfolding picks picksBack
-  root-picked = go (picks q []) refl
-    where
-      go : (b : Bool) → picks q [] ≡ b → b ≡ eqb (length q) 0
-      go true e = sym (eq-eqb (length q) 0 (ap length (picks-root q e)))
-      go false e =
-          sym (ne-eqb (length q) 0 (λ (z : length q ≡ 0). false≢true (sym e ∙ ap (λ (x : List Step). picks x []) (no-steps q z))))
-
   -- at the root
   pub state-root : stateAt q [] ≡ start q
   unfolding stateAt start frames
   state-root =
       ap₂ (λ (m : ℕ) (p : Bool). record { marks = m; picked = p; frames = 0 })
-      (number-same (length q) (λ i. mark q i []) (λ i. eqb i 0) root-mark) root-picked
+      (number-same (length q) (λ i. mark q i []) (λ i. eqb i 0) root-mark) (picks-top q)
 
   -- a walk that carries these states visits every node with the state of its way
   pub states-are : (t : Tree) → nodeVisits (next q) (root t) (start q) ≡ map (over (stateAt q)) (nodes t)

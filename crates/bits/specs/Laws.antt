@@ -12,7 +12,7 @@ use lib.Pow.{mod-mod-pow, mod-pow-add, field, shr-shr, pow-pos}
 use lib.Count.{ones, onesIn, ones-step, trailingZeros, under, trailing-le}
 use borrow.Author.Tests.{ltb-true, ltb-false, leb-true, leb-false, le-leb, lt-leb, eq-eqb, ne-eqb, eqb-true, eqb-false}
 use Rattle.bits.specs.Bits.{on, bit, digit, number, Lowest}
-use Rattle.bits.specs.Truth.{truth}
+use Rattle.bits.specs.Truth.{truth, xor-true}
 
 pub lt-or-ge : (m n : ℕ) → (m < n) ⊎ (n ≤ m)
 lt-or-ge m n = go (ltb m n) refl
@@ -85,10 +85,6 @@ bit-ones (suc k) zero h =
     let e : (2 ^ suc k - 1) % 2 ≡ 1 = omega (arith, pow-suc 2 k, pow-pos k) in ap on e
 bit-ones (suc k) (suc i) h =
     let e : (2 ^ suc k - 1) / 2 ≡ 2 ^ k - 1 = omega (arith, pow-suc 2 k, pow-pos k) in ap (bit i) e ∙ bit-ones k i (omega arith)
-
-xor-true : (x : Bool) → xor x true ≡ not x
-unfolding xor
-xor-true = truth 1 (λ x. xor x true) not tt
 
 -- `not` of a number of k bits
 pub bit-not : (k i a : ℕ) → i < k → bit i (bitXor a (2 ^ k - 1)) ≡ not (bit i a)
@@ -214,11 +210,6 @@ unfolding digit on
 digit-on zero h = refl
 digit-on (suc x) h = omega arith
 
--- a flag is its own lowest bit
-pub bit-flag : (n : ℕ) → n < 2 → bit 0 n ≡ on n
-unfolding bit
-bit-flag n h = let e : n % 2 ≡ n = omega arith in ap on e
-
 pub number-of : (n w : ℕ) (f : ℕ → Bool) → ((i : ℕ) → i < n → bit i w ≡ f i) → w % 2 ^ n ≡ number n f
 unfolding number bit
 number-of zero w f h = omega arith
@@ -258,10 +249,6 @@ number-same zero f g h = refl
 number-same (suc n) f g h =
     ap₂ (λ (x : ℕ) (b : Bool). x * 2 + digit b)
     (number-same n (λ i. f (suc i)) (λ i. g (suc i)) (λ i l. h (suc i) (omega arith))) (h 0 (omega arith))
-
--- the number 0 has no bit
-pub number-zero : (n : ℕ) (f : ℕ → Bool) → number n f ≡ 0 → (i : ℕ) → i < n → f i ≡ false
-number-zero n f e i h = sym (bit-number n i f h) ∙ ap (bit i) e ∙ bit-zero i
 
 -- ---- sums
 
@@ -365,19 +352,6 @@ trailing-off (suc k) n j l = go (n % 2) refl j l (λ m. trailing-off k (n / 2) m
 
 pub trailing-lowest : (k n : ℕ) → Lowest k n (trailingZeros k n)
 trailing-lowest k n = record { is-on = trailing-on k n; none-below = trailing-off k n; within = trailing-le k n }
-
--- of the number of n bits f, read at a width k of at least n: the lowest bit that is on is the first place where f holds
-module _ (n k i : ℕ) (f : ℕ → Bool) (low : Lowest k (number n f) i) where
-  pub lowest-inside : i < k → i < n
-  lowest-inside h = ⊎-elim (λ (l : i < n). l)
-      (λ (l : n ≤ i). let e : true ≡ false = sym (low .is-on h) ∙ number-high n i f l in let z : _≡_ {A = ℕ} 0 1 = cc in absurd (omega arith))
-      (lt-or-ge i n)
-
-  pub lowest-holds : i < k → f i ≡ true
-  lowest-holds h = sym (bit-number n i f (lowest-inside h)) ∙ low .is-on h
-
-  pub lowest-none : (j : ℕ) → j < n → j < i → f j ≡ false
-  lowest-none j h l = sym (bit-number n j f h) ∙ low .none-below j l
 
 -- the number of k bits with bit n alone
 pub bit-alone : (k n i : ℕ) → n < k → bit i (1 * 2 ^ n % 2 ^ k) ≡ eqb i n

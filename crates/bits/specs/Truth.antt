@@ -1,6 +1,7 @@
--- Facts decided by computing every case: tests of all numbers below a bound, and equations between Booleans.
-use mathlib.Core.Path.{_≡_, refl}
-use mathlib.Core.Bool.{Bool, true, false, _&&_, Bool·beq}
+-- Facts decided by computing every case: tests of all numbers below a bound, equations between Booleans, and laws of Booleans. Assumes nothing.
+use mathlib.Core.Path.{_≡_, refl, sym}
+use mathlib.Core.Bool.{Bool, true, false, not, xor, _&&_, _||_, Bool·beq, false≢true}
+use mathlib.Core.Logic.{_↔_, _⊎_, inl, inr}
 use Prim.Native.Nat.{ℕ, zero, suc, _<_}
 use native.Mathlib.Omega.{arith}
 use lib.Dec.{T, eqb}
@@ -13,6 +14,10 @@ and-left false b t = t
 pub and-right : (a b : Bool) → T (a && b) → T b
 and-right true b t = t
 and-right false b t = absurd t
+
+pub of-T : (b : Bool) → T b → b ≡ true
+of-T true t = refl
+of-T false t = absurd t
 
 pub beq→eq : (a b : Bool) → T (Bool·beq a b) → a ≡ b
 beq→eq true true t = refl
@@ -56,3 +61,53 @@ truth zero a b t = beq→eq a b t
 truth (suc n) f g t = either (λ x. Same n (f x) (g x))
     (truth n (f true) (g true) (and-left (sameEverywhere n (f true) (g true)) (sameEverywhere n (f false) (g false)) t))
     (truth n (f false) (g false) (and-right (sameEverywhere n (f true) (g true)) (sameEverywhere n (f false) (g false)) t))
+
+-- ---- laws of Booleans
+
+pub xor-false : (x : Bool) → xor x false ≡ x
+unfolding xor
+xor-false = truth 1 (λ x. xor x false) (λ x. x) tt
+
+pub false-xor : (x : Bool) → xor false x ≡ x
+unfolding xor
+false-xor = truth 1 (xor false) (λ x. x) tt
+
+pub xor-true : (x : Bool) → xor x true ≡ not x
+unfolding xor
+xor-true = truth 1 (λ x. xor x true) not tt
+
+pub true-xor : (x : Bool) → xor true x ≡ not x
+unfolding xor
+true-xor = truth 1 (xor true) not tt
+
+-- an alternative that holds has one that holds, and one that fails has none
+pub or-is : (x y : Bool) → ((x || y) ≡ true) ↔ ((x ≡ true) ⊎ (y ≡ true))
+or-is true y = (λ e. inl refl, λ h. refl)
+or-is false y = (inr, go)
+  where
+    go : (false ≡ true) ⊎ (y ≡ true) → y ≡ true
+    go (inl e) = absurd (false≢true e)
+    go (inr e) = e
+
+pub neither : (x y : Bool) → (x || y) ≡ false → (x ≡ false) × (y ≡ false)
+neither true y e = absurd (false≢true (sym e))
+neither false y e = (refl, e)
+
+-- where the first fails it is the second
+pub or-second : (x y : Bool) → (x || y) ≡ true → x ≡ false → y ≡ true
+or-second true y h e = absurd (false≢true (sym e))
+or-second false y h e = h
+
+pub beq-is : (x y : Bool) → (Bool·beq x y ≡ true) ↔ (x ≡ y)
+beq-is x y = (λ e. beq→eq x y (rw e tt), λ e. rw e (same y))
+  where
+    same : (z : Bool) → Bool·beq z z ≡ true
+    same true = refl
+    same false = refl
+
+-- two tests that hold together are equal
+pub same-truth : (x y : Bool) → (x ≡ true) ↔ (y ≡ true) → x ≡ y
+same-truth true true h = refl
+same-truth true false h = sym (h .0 refl)
+same-truth false true h = h .1 refl
+same-truth false false h = refl

@@ -1,8 +1,5 @@
-pub mod DeltaSwap
 pub mod Parity
 pub mod Escape
-pub mod Gather
 pub mod Fill
-pub mod Packing
-pub mod Marking
+pub mod StringsFound
 pub mod Sort

@@ -8,7 +8,7 @@ use native.Mathlib.Omega.{arith}
 use lib.Bits.{bitXor}
 use Rattle.bits.specs.Bits.{bit}
 use Rattle.bits.specs.Laws.{bit-xor, bit-shl, shifted, shifted-same}
-use Rattle.bits.specs.Truth.{truth}
+use Rattle.bits.specs.Truth.{truth, xor-false, false-xor}
 use Rattle.blocks.specs.Parts.{parity}
 
 -- the parity of f at the n places up to and with i
@@ -16,14 +16,6 @@ window : ℕ → (ℕ → Bool) → ℕ → Bool
 window zero f i = false
 window (suc n) f zero = f zero
 window (suc n) f (suc i) = xor (f (suc i)) (window n f i)
-
-xor-false : (a : Bool) → xor a false ≡ a
-unfolding xor
-xor-false = truth 1 _ _ tt
-
-false-xor : (a : Bool) → xor false a ≡ a
-unfolding xor
-false-xor = truth 1 _ _ tt
 
 xor-assoc : (a b c : Bool) → xor (xor a b) c ≡ xor a (xor b c)
 unfolding xor

@@ -1,4 +1,4 @@
--- The words of a full block from the places of its bytes: real quotes and strings as they are marked, and brackets outside of strings. A mask
+-- The words of a full block from the places of its bytes: real quotes and strings as they are found, and brackets outside of strings. A mask
 -- cuts them to a shorter block. Assumes nothing.
 use mathlib.Core.Path.{_≡_, refl, sym, ap, ap₂, _∙_}
 use mathlib.Core.Bool.{Bool, not, xor, _&&_}
@@ -12,9 +12,12 @@ use lib.ListN.{length}
 use lib.Pow.{shl-exact}
 use Rattle.bits.specs.Bits.{bit, number}
 use Rattle.bits.specs.Laws.{bit-and, bit-not, number-of, number-is}
-use Rattle.blocks.specs.Words.{isBackslash, oddBefore, realQuote, oddQuotes, inString, opensAt, closesAt, blockSize, quotesWord, stringsWord, openingWord, closingWord, insideAfter, oddAfter}
+use Rattle.blocks.specs.Words.{oddBefore, realQuote, oddQuotes, inString, opensAt, closesAt, blockSize, quotesWord, stringsWord, openingWord, closingWord, insideAfter, oddAfter}
+use Rattle.classifier.specs.Classes.{isBackslash}
 use Rattle.blocks.specs.Laws.{size-full, size-short, inside-full, odd-full, quotes-bit, strings-bit, opening-bit, closing-bit, quote-same, quotes-same, string-same, opens-same, closes-same, oddQuotes-past}
-use Rattle.blocks.specs.Parts.{oddRun, parity, isOpening, isClosing, Classified, Marked, Padded}
+use Rattle.blocks.specs.Parts.{oddRun, parity, StringsFound, Padded}
+use Rattle.classifier.specs.Classes.{isOpening, isClosing}
+use Rattle.classifier.specs.Packed.{Classified}
 use Rattle.blocks.specs.Sorted.{Sorted}
 use Rattle.blocks.specs.declared.Words.{Words}
 use Rattle.blocks.proofs.Escape.{all-ones}
@@ -35,18 +38,18 @@ parity-is s inside odd f (suc i) h = ap₂ xor (h i (omega arith)) (parity-is s 
 -- ---- a full block
 
 module _ (s : List ℕ) (inside odd : Bool) (q b o c quotes strings : ℕ) (ends : Bool) (classes : Classified s q b o c)
-    (marked : Marked q b inside odd quotes strings ends) where
+    (found : StringsFound q b inside odd quotes strings ends) where
   run-before : (i : ℕ) → i ≤ 64 → oddRun odd (λ j. bit j b) i ≡ oddBefore odd s i
   run-before i h = run-is s odd (λ j. bit j b) i (λ j l. classes .backslash-at j (omega arith))
 
   quote-bit : (i : ℕ) → i < 64 → bit i quotes ≡ realQuote odd s i
   unfolding realQuote
-  quote-bit i h = marked .quotes-at i h ∙ ap₂ (λ (x y : Bool). x && not y) (classes .quote-at i h) (run-before i (omega arith))
+  quote-bit i h = found .quotes-at i h ∙ ap₂ (λ (x y : Bool). x && not y) (classes .quote-at i h) (run-before i (omega arith))
 
   string-bit : (i : ℕ) → i < 64 → bit i strings ≡ inString inside odd s i
   unfolding inString
   string-bit i h =
-      marked .strings-at i h
+      found .strings-at i h
       ∙ parity-is s inside odd (λ j. bit j quotes) (i + 1) (λ j l. quote-bit j (omega arith))
       ∙ ap (oddQuotes inside odd s) (add-one i)
 
@@ -81,7 +84,7 @@ module _ (s : List ℕ) (inside odd : Bool) (q b o c quotes strings : ℕ) (ends
     inside-last = string-bit 63 (omega arith) ∙ sym (inside-full s inside odd long)
 
     pub odd-last : ends ≡ oddAfter odd s
-    odd-last = marked .ends-is ∙ run-before 64 (omega arith) ∙ sym (odd-full s inside odd long)
+    odd-last = found .ends-is ∙ run-before 64 (omega arith) ∙ sym (odd-full s inside odd long)
 
 -- ---- a shorter block
 

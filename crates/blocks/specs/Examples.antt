@@ -5,7 +5,8 @@ use mathlib.Core.List.{List, [], _∷_, _++_}
 use Prim.Native.Nat.{ℕ}
 use lib.ListN.{drop, replicate}
 use Rattle.bits.specs.Bits.{number, digit}
-use Rattle.blocks.specs.Words.{byteAt, isBackslash, oddBefore, realQuote, oddQuotes, inString, opensAt, closesAt, blockSize, quotesWord, stringsWord, openingWord, closingWord, insideAfter, oddAfter}
+use Rattle.blocks.specs.Words.{oddBefore, realQuote, oddQuotes, inString, opensAt, closesAt, blockSize, quotesWord, stringsWord, openingWord, closingWord, insideAfter, oddAfter}
+use Rattle.classifier.specs.Classes.{byteAt, isBackslash}
 
 -- one backslash before a quote: the quote is not real
 one-backslash : quotesWord false (0x5C ∷ 0x22 ∷ []) ≡ 0

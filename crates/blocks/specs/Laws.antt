@@ -7,14 +7,15 @@ use Prim.Native.Nat.{ℕ, zero, suc, _+_, _<_, _≤_}
 use native.Mathlib.Nat.{add-zero, add-suc, suc-add, zero-add, min-eq-left, min-eq-right, min-le-right}
 use native.Mathlib.Omega.{arith}
 use lib.Dec.{eqb}
-use lib.ListN.{length, take, drop, List·getD-eq-default}
-use lib.Seq.{getD-drop, getD-take}
+use lib.ListN.{length, drop, List·getD-eq-default}
+use lib.Seq.{getD-drop}
 use borrow.Author.Tests.{ne-eqb}
 use lib.Bits.{bitOr}
 use Rattle.bits.specs.Bits.{bit, Lowest}
 use Rattle.bits.specs.Laws.{lt-or-ge, bit-or, bit-number, number-high}
-use Rattle.bits.specs.Truth.{truth}
-use Rattle.blocks.specs.Words.{byteAt, isBackslash, oddBefore, realQuote, oddQuotes, inString, opensAt, closesAt, blockSize, quotesWord, stringsWord, openingWord, closingWord, insideAfter, oddAfter}
+use Rattle.bits.specs.Truth.{neither, false-xor, true-xor}
+use Rattle.blocks.specs.Words.{oddBefore, realQuote, oddQuotes, inString, opensAt, closesAt, blockSize, quotesWord, stringsWord, openingWord, closingWord, insideAfter, oddAfter}
+use Rattle.classifier.specs.Classes.{byteAt, isBackslash}
 
 -- ---- the size of a block
 
@@ -79,10 +80,6 @@ module _ (s : List ℕ) (inside odd : Bool) (i : ℕ) (h : blockSize s ≤ i) wh
 
 -- ---- the next bracket is the lowest bit that is on
 
-pub or-parts : (a b : Bool) → (a || b) ≡ false → (a ≡ false) × (b ≡ false)
-or-parts true b e = (e, cc)
-or-parts false b e = (refl, e)
-
 module _ (s : List ℕ) (inside odd : Bool) (i : ℕ) (low : Lowest 64 (bitOr (openingWord inside odd s) (closingWord inside odd s)) i) where
   bracket : ℕ → Bool
   bracket j = opensAt inside odd s j || closesAt inside odd s j
@@ -108,7 +105,7 @@ module _ (s : List ℕ) (inside odd : Bool) (i : ℕ) (low : Lowest 64 (bitOr (o
 
   pub none-before : (j : ℕ) → j < blockSize s → j < i → (opensAt inside odd s j ≡ false) × (closesAt inside odd s j ≡ false)
   unfolding bracket
-  none-before j h l = or-parts (opensAt inside odd s j) (closesAt inside odd s j) (sym (bracket-bit j h) ∙ low .none-below j l)
+  none-before j h l = neither (opensAt inside odd s j) (closesAt inside odd s j) (sym (bracket-bit j h) ∙ low .none-below j l)
 
 -- ---- two records that agree before place n
 
@@ -142,11 +139,6 @@ module _ (s t : List ℕ) (n : ℕ) (same : (j : ℕ) → j < n → byteAt s j �
   pub closes-same : (i : ℕ) → i < n → closesAt inside odd s i ≡ closesAt inside odd t i
   unfolding closesAt
   closes-same i h = ap₂ (λ (x : ℕ) (y : Bool). (eqb x 0x5D || eqb x 0x7D) && not y) (same i h) (string-same i h)
-
--- the first n bytes agree with the whole before place n
-pub byte-take : (s : List ℕ) (n j : ℕ) → j < n → byteAt (take n s) j ≡ byteAt s j
-unfolding byteAt
-byte-take s n j h = getD-take n s j 0 h
 
 -- ---- from place n on, with the facts at n carried
 
@@ -187,14 +179,6 @@ module _ (s : List ℕ) (inside odd : Bool) (n : ℕ) where
   closes-drop i = ap₂ (λ (x : ℕ) (y : Bool). (eqb x 0x5D || eqb x 0x7D) && not y) (byte-drop i) (string-drop i)
 
 -- ---- past the end there is no quote
-
-false-xor : (a : Bool) → xor false a ≡ a
-unfolding xor
-false-xor = truth 1 (xor false) (λ a. a) tt
-
-true-xor : (a : Bool) → xor true a ≡ not a
-unfolding xor
-true-xor = truth 1 (xor true) not tt
 
 pub quote-past : (s : List ℕ) (odd : Bool) (i : ℕ) → length s ≤ i → realQuote odd s i ≡ false
 unfolding realQuote byteAt

@@ -1,18 +1,10 @@
 -- The words and the carried facts of a block (document 01, "Words of 64 bits"), place by place from the block's first byte and for all bytes.
 use Prim.Native.Nat.{ℕ, zero, suc, min}
-use mathlib.Core.Bool.{Bool, not, xor, _&&_, _||_}
+use mathlib.Core.Bool.{Bool, not, xor, _&&_}
 use mathlib.Core.List.{List}
-use lib.Dec.{eqb}
-use lib.ListN.{length, getD}
+use lib.ListN.{length}
 use Rattle.bits.specs.Bits.{number}
-
--- byte i of the rest of the record
-unfoldable pub byteAt : List ℕ → ℕ → ℕ
-byteAt s i = getD s i 0
-
-unfoldable pub isBackslash : List ℕ → ℕ → Bool
-unfolding byteAt
-isBackslash s i = eqb (byteAt s i) 0x5C
+use Rattle.classifier.specs.Classes.{byteAt, isQuote, isBackslash, isOpening, isClosing}
 
 -- an odd run of backslashes stands just before place i, where `odd` says so of place 0
 unfoldable pub oddBefore : (odd : Bool) → List ℕ → ℕ → Bool
@@ -23,7 +15,7 @@ oddBefore odd s (suc i) = isBackslash s i && not (oddBefore odd s i)
 -- a real quote: the run of backslashes before it is even
 unfoldable pub realQuote : (odd : Bool) → List ℕ → ℕ → Bool
 unfolding byteAt oddBefore
-realQuote odd s i = eqb (byteAt s i) 0x22 && not (oddBefore odd s i)
+realQuote odd s i = isQuote s i && not (oddBefore odd s i)
 
 -- the real quotes before place i are odd in number, where being inside counts as one before place 0
 unfoldable pub oddQuotes : (inside odd : Bool) → List ℕ → ℕ → Bool
@@ -39,11 +31,11 @@ inString inside odd s i = oddQuotes inside odd s (suc i)
 -- an opening, and a closing bracket outside strings
 unfoldable pub opensAt : (inside odd : Bool) → List ℕ → ℕ → Bool
 unfolding byteAt inString
-opensAt inside odd s i = (eqb (byteAt s i) 0x5B || eqb (byteAt s i) 0x7B) && not (inString inside odd s i)
+opensAt inside odd s i = isOpening s i && not (inString inside odd s i)
 
 unfoldable pub closesAt : (inside odd : Bool) → List ℕ → ℕ → Bool
 unfolding byteAt inString
-closesAt inside odd s i = (eqb (byteAt s i) 0x5D || eqb (byteAt s i) 0x7D) && not (inString inside odd s i)
+closesAt inside odd s i = isClosing s i && not (inString inside odd s i)
 
 -- a block is the first 64 bytes, or fewer
 unfoldable pub blockSize : List ℕ → ℕ

@@ -1,12 +1,12 @@
 // Sorts a block of at most 64 bytes into words of 64 bits, with the facts for the next block.
 use bits::has;
-use bits::load8;
+use classifier::classify;
 ghost use mathlib.Core.Path.{_≡_};
-ghost use mathlib.Core.Bool.{true, false};
-ghost use Prim.Native.Nat.{ℕ, _+_, _*_, _-_, _/_, _%_, _^_, _<_, _≤_};
+ghost use mathlib.Core.Bool.{false};
+ghost use Prim.Native.Nat.{ℕ, _+_, _-_, _^_, _<_, _≤_};
 ghost use lib.ListN.{length};
 ghost use Rattle.bits.specs.Bits.{bit};
-ghost use Rattle.blocks.specs.Parts.{oddRun, parity, Swapped, spaced, PackedClasses, Unpacked, Classified, Marked, Padded};
+ghost use Rattle.blocks.specs.Parts.{oddRun, parity, StringsFound, Padded};
 ghost use Rattle.blocks.specs.Words.{oddBefore};
 ghost use Rattle.blocks.specs.Sorted.{Sorted};
 ghost use Rattle.blocks.specs.Counts.{countedOf, SortedCounted};
@@ -29,16 +29,8 @@ pub struct Counted {
     pub closed: u32,
 }
 
-// The places of the bytes that the words are made of.
-struct Classes {
-    quotes: u64,
-    backslashes: u64,
-    opening: u64,
-    closing: u64,
-}
-
 // The quotes that are real, the places inside strings, and whether an odd run of backslashes is last.
-struct Marks {
+struct Strings {
     quotes: u64,
     strings: u64,
     odd: bool,
@@ -50,42 +42,13 @@ const BLOCK: usize = 64;
 // The last place of a full block.
 const LAST: usize = 63;
 
-const QUOTE: u8 = 34;
-
 const BACKSLASH: u8 = 92;
-
-// The opening brace.
-const OPENING: u8 = 123;
-
-// The closing brace.
-const CLOSING: u8 = 125;
-
-// The bit that makes a square bracket the brace of its kind.
-const BRACE: u8 = 32;
 
 // Every bit on.
 const ALL: u64 = 0xffffffffffffffff;
 
 // Every even bit on.
 const EVEN: u64 = 0x5555555555555555;
-
-// The bits under the mask change places with those `k` places up.
-fn swap(x: u64, k: u32, mask: u64) -> u64
-    requires { ⌜ k < 64 ⌝ }
-    ensures { λ r. ⌜ Swapped k mask x r ⌝ }
-{
-    let moved = (x ^ (x >> k)) & mask;
-    x ^ moved ^ (moved << k)
-}
-
-// Eight rows of eight bits turned into columns: single bits change places, then pairs, then fours.
-fn transpose(x: u64) -> u64
-    ensures { λ r. ⌜ ((i : ℕ) → i < 64 → bit i r ≡ bit (8 * (i % 8) + i / 8) x) ⌝ }
-{
-    let singles = swap(x, 7, 0x00aa00aa00aa00aa);
-    let pairs = swap(singles, 14, 0x0000cccc0000cccc);
-    swap(pairs, 28, 0x00000000f0f0f0f0)
-}
 
 // Bit i is on where the bits 0 to i of x are odd in number.
 fn prefix_xor(x: u64) -> u64
@@ -110,73 +73,6 @@ fn escaped(backslashes: u64, odd: bool) -> u64
     sum ^ EVEN ^ (backslashes | first)
 }
 
-// Four flags in one byte, at its even places.
-fn four(a: bool, b: bool, c: bool, d: bool) -> u8
-    ensures { λ r. ⌜ ((j : ℕ) → j < 8 → bit j r ≡ spaced a b c d j) ⌝ }
-{
-    a as u8 | (b as u8) << 2 | (c as u8) << 4 | (d as u8) << 6
-}
-
-// The flags of the first 64 bytes, four in a byte: 16 bytes for the quotes, then for backslashes, for opening and for closing brackets.
-fn pack(s: &[u8]) -> [u8; BLOCK]
-    requires { ⌜ 64 ≤ length (now s) ⌝ }
-    ensures { λ r. ⌜ PackedClasses (now (s .entry)) r 16 ⌝ }
-{
-    let mut m: [u8; BLOCK] = [0u8; BLOCK];
-    let mut i: usize = 0;
-    while i < 16 {
-        let a = s[i];
-        let b = s[i + 16];
-        let c = s[i + 32];
-        let d = s[i + 48];
-        m[i] = four(a == QUOTE, b == QUOTE, c == QUOTE, d == QUOTE);
-        m[i + 16] = four(
-            a == BACKSLASH,
-            b == BACKSLASH,
-            c == BACKSLASH,
-            d == BACKSLASH,
-        );
-        m[i + 32] = four(
-            (a | BRACE) == OPENING,
-            (b | BRACE) == OPENING,
-            (c | BRACE) == OPENING,
-            (d | BRACE) == OPENING,
-        );
-        m[i + 48] = four(
-            (a | BRACE) == CLOSING,
-            (b | BRACE) == CLOSING,
-            (c | BRACE) == CLOSING,
-            (d | BRACE) == CLOSING,
-        );
-        i += 1;
-    }
-    m
-}
-
-// The word of the flags that are packed in 16 bytes from `at` on: the first eight have its even rows, the next eight its odd rows.
-fn word(m: &[u8; BLOCK], at: usize) -> u64
-    requires { ⌜ at + 16 ≤ 64 ⌝ }
-    ensures { λ r. ⌜ Unpacked (now (m .entry)) at r ⌝ }
-{
-    let even = load8(m, at);
-    let odd = load8(m, at + 8);
-    transpose(even | (odd << 1))
-}
-
-// The places of quotes, backslashes and brackets among the first 64 bytes.
-fn classify(s: &[u8]) -> Classes
-    requires { ⌜ 64 ≤ length (now s) ⌝ }
-    ensures { λ r. ⌜ Classified (now (s .entry)) (r .quotes) (r .backslashes) (r .opening) (r .closing) ⌝ }
-{
-    let m = pack(s);
-    Classes {
-        quotes: word(&m, 0),
-        backslashes: word(&m, 16),
-        opening: word(&m, 32),
-        closing: word(&m, 48),
-    }
-}
-
 // The same bit in every place.
 fn spread(b: bool) -> u64
     ensures { λ r. ⌜ ((i : ℕ) → i < 64 → bit i r ≡ b) ⌝ }
@@ -185,11 +81,11 @@ fn spread(b: bool) -> u64
 }
 
 // Takes quotes that no odd run escapes, and the parity of these. Where neither quote nor backslash stands, a string or none goes on.
-fn mark(quotes: u64, backslashes: u64, inside: bool, odd: bool) -> Marks
-    ensures { λ r. ⌜ Marked quotes backslashes inside odd (r .quotes) (r .strings) (r .odd) ⌝ }
+fn find_strings(quotes: u64, backslashes: u64, inside: bool, odd: bool) -> Strings
+    ensures { λ r. ⌜ StringsFound quotes backslashes inside odd (r .quotes) (r .strings) (r .odd) ⌝ }
 {
     if quotes | backslashes == 0 {
-        return Marks {
+        return Strings {
             quotes: 0,
             strings: spread(inside),
             odd: false,
@@ -197,7 +93,7 @@ fn mark(quotes: u64, backslashes: u64, inside: bool, odd: bool) -> Marks
     }
     let e = escaped(backslashes, odd);
     let real = quotes & (e ^ ALL);
-    Marks {
+    Strings {
         quotes: real,
         strings: prefix_xor(real) ^ spread(inside),
         odd: has(backslashes & (e ^ ALL), LAST),
@@ -223,7 +119,7 @@ pub fn sort_full(rest: &[u8], inside: bool, odd: bool) -> Counted
     ensures { λ r. ⌜ SortedCounted (now (rest .entry)) inside odd r ⌝ }
 {
     let c = classify(rest);
-    let k = mark(c.quotes, c.backslashes, inside, odd);
+    let k = find_strings(c.quotes, c.backslashes, inside, odd);
     let outside = k.strings ^ ALL;
     let words = Words {
         quotes: k.quotes,

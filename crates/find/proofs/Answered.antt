@@ -19,7 +19,8 @@ use Rattle.answers.specs.Lister.{orElse}
 use Rattle.answers.specs.Finder.{endAmong, endAt, endIn, offsetVerdict, findVerdict, orZero, endIf, findEnd, Finds, valuePart, startIf, partStart}
 use Rattle.answers.specs.FinderIs.{finder-says-only, finds-say, reader-part, reader-says-only}
 use Rattle.answers.specs.FinderSays.{FinderSays, recordRefused, noValue, found, nothing}
-use Rattle.answers.specs.Within.{RecordIs, record-is-taken, record-tree}
+use Rattle.answers.specs.Within.{RecordIs}
+use Rattle.answers.specs.WithinLaws.{record-is-taken, record-tree}
 use Rattle.validate.specs.Checks.{Answers}
 use Rattle.find.specs.Seeks.{FindsFrom}
 use Rattle.find.proofs.Ends.{none-found}

@@ -1,7 +1,7 @@
 -- What is kept of a block tells where a container is left: the opening bracket just before `at`, outside strings, shows that neither a string
 -- nor an odd run of backslashes reaches `at`, so the words from there on are those of the definition. Assumes nothing.
-use mathlib.Core.Path.{_≡_, refl, sym, ap, ap₂, subst, _∙_}
-use mathlib.Core.Bool.{Bool, true, false, not, _&&_, _||_, false≢true}
+use mathlib.Core.Path.{_≡_, refl, sym, ap, subst, _∙_}
+use mathlib.Core.Bool.{Bool, true, false, not, _&&_, _||_, false≢true, and-eq-true-iff}
 use mathlib.Core.List.{List}
 use mathlib.Core.Logic.{⊎-elim}
 use Prim.Native.Nat.{ℕ, suc, _+_, _-_, _/_, _^_, _<_, _≤_}
@@ -10,24 +10,20 @@ use native.Mathlib.Omega.{arith}
 use lib.Dec.{eqb}
 use lib.ListN.{length, getD, set, drop, length-drop, length-set}
 use lib.Seq.{drop-drop, getD-set-same, getD-set-other}
-use borrow.Author.Tests.{eqb-true}
+use borrow.Author.Tests.{eqb-true, not-true}
 use Rattle.bits.specs.Bits.{bit}
 use Rattle.bits.specs.Laws.{lt-or-ge, bit-shr}
-use Rattle.blocks.specs.Words.{byteAt, isBackslash, oddBefore, inString, opensAt, closesAt, openingWord, closingWord}
-use Rattle.blocks.specs.Laws.{Carried, opening-past, closing-past, size-le, opens-drop, closes-drop}
+use Rattle.blocks.specs.Words.{oddBefore, inString, opensAt, openingWord, closingWord}
+use Rattle.classifier.specs.Classes.{byteAt, isBackslash}
+use Rattle.blocks.specs.Laws.{Carried, opening-past, closing-past, size-le}
 use Rattle.blocks.specs.Sorted.{Sorted}
 use Rattle.blocks.specs.declared.Words.{Words}
 use Rattle.leap.specs.Brackets.{depthAt, depthIn, Closed}
-use Rattle.leap.specs.BracketLaws.{depth-calm, depth-same, closed-at, closed-once}
-use Rattle.leap.specs.Passing.{Finds, KeptBlock, Kept, Near}
-use Rattle.leap.proofs.Ways.{falls-inside, block-opens, block-closes, both}
+use Rattle.leap.specs.BracketLaws.{depth-falls, closed-at, closed-once}
+use Rattle.leap.specs.Passing.{FindsClosing, KeptBlock, Kept, Near}
+use Rattle.leap.proofs.Ways.{falls-inside, block-opens, word-depth}
 
 -- ---- just behind an opening bracket
-
-second : (x y : Bool) → (x && not y) ≡ true → y ≡ false
-second true true e = absurd (false≢true e)
-second true false e = refl
-second false y e = absurd (false≢true e)
 
 no-backslash : (b : ℕ) → (eqb b 0x5B || eqb b 0x7B) ≡ true → eqb b 0x5C ≡ false
 no-backslash b h = go (eqb b 0x5B) refl (eqb b 0x7B) refl h
@@ -41,58 +37,43 @@ no-backslash b h = go (eqb b 0x5B) refl (eqb b 0x7B) refl h
 pub behind-opening : (s : List ℕ) (inside odd : Bool) (i : ℕ) → opensAt inside odd s i ≡ true → Carried inside odd s (suc i) false false
 unfolding opensAt inString oddBefore isBackslash
 behind-opening s inside odd i h =
-    let bracket = both (eqb (byteAt s i) 0x5B || eqb (byteAt s i) 0x7B) (not (inString inside odd s i)) h in
+    let (bracket, outside) = and-eq-true-iff (eqb (byteAt s i) 0x5B || eqb (byteAt s i) 0x7B) (not (inString inside odd s i)) .0 h in
     record {
-      quoted-is = second (eqb (byteAt s i) 0x5B || eqb (byteAt s i) 0x7B) (inString inside odd s i) h;
+      quoted-is = not-true (inString inside odd s i) outside;
       escaped-is = ap (λ (x : Bool). x && not (oddBefore odd s i)) (no-backslash (byteAt s i) bracket);
     }
 
 -- ---- the words from there on
 
 module _ (s : List ℕ) (inside odd : Bool) (near : ℕ) (behind : Carried inside odd s near false false) where
-  opens-on : (j : ℕ) → near + j < 64 → bit j (openingWord inside odd s / 2 ^ near) ≡ opensAt false false (drop near s) j
-  opens-on j h =
-      bit-shr near j (openingWord inside odd s)
-      ∙ block-opens s inside odd (near + j) h
-      ∙ sym (opens-drop s inside odd near j)
-      ∙ ap₂ (λ (x y : Bool). opensAt x y (drop near s) j) (behind .quoted-is) (behind .escaped-is)
-
-  closes-on : (j : ℕ) → near + j < 64 → bit j (closingWord inside odd s / 2 ^ near) ≡ closesAt false false (drop near s) j
-  closes-on j h =
-      bit-shr near j (closingWord inside odd s)
-      ∙ block-closes s inside odd (near + j) h
-      ∙ sym (closes-drop s inside odd near j)
-      ∙ ap₂ (λ (x y : Bool). closesAt x y (drop near s) j) (behind .quoted-is) (behind .escaped-is)
-
-  depth-on-words : (i : ℕ) → near + i ≤ 64
+  depth-on : (i : ℕ) → near + i ≤ 64
       → depthAt (λ j. bit j (openingWord inside odd s / 2 ^ near)) (λ j. bit j (closingWord inside odd s / 2 ^ near)) 1 i ≡ depthIn false false (drop near s) 1 i
-  unfolding depthIn
-  depth-on-words i h =
-      depth-same _ _ (opensAt false false (drop near s)) (closesAt false false (drop near s)) 1 i
-      (λ j l. opens-on j (omega arith)) (λ j l. closes-on j (omega arith))
+  depth-on =
+      word-depth s inside odd near behind (openingWord inside odd s / 2 ^ near) (closingWord inside odd s / 2 ^ near)
+      (λ j. bit-shr near j (openingWord inside odd s)) (λ j. bit-shr near j (closingWord inside odd s))
+      1
 
-  module _ {place after : ℕ} (f : Finds (openingWord inside odd s / 2 ^ near) (closingWord inside odd s / 2 ^ near) 1 place after) (small : place < 64) where
+  module _ {place after : ℕ} (f : FindsClosing (openingWord inside odd s / 2 ^ near) (closingWord inside odd s / 2 ^ near) 1 place after) (small : place < 64) where
     -- the bracket that was found stands in the block
     in-block : near + place < 64
     in-block = ⊎-elim
         (λ (l : near + place < 64). l)
         (λ (l : 64 ≤ near + place).
-        let o : bit place (openingWord inside odd s / 2 ^ near) ≡ false =
-        bit-shr near place (openingWord inside odd s) ∙ opening-past s inside odd (near + place) (omega (arith, size-le s)) in
-        let c : bit place (closingWord inside odd s / 2 ^ near) ≡ false =
-        bit-shr near place (closingWord inside odd s) ∙ closing-past s inside odd (near + place) (omega (arith, size-le s)) in
-        let same = depth-calm (λ j. bit j (openingWord inside odd s / 2 ^ near)) (λ j. bit j (closingWord inside odd s / 2 ^ near)) 1 place o c in
-        let there = f .found small in
-        absurd (omega (arith, there .0, there .1, ap (depthAt (λ j. bit j (openingWord inside odd s / 2 ^ near)) (λ j. bit j (closingWord inside odd s / 2 ^ near)) 1) (add-one place))))
+        let opening : ℕ → Bool = λ j. bit j (openingWord inside odd s / 2 ^ near) in
+        let closing : ℕ → Bool = λ j. bit j (closingWord inside odd s / 2 ^ near) in
+        absurd
+        (depth-falls opening closing 1 place (f .found small .0) (ap (depthAt opening closing 1) (sym (add-one place)) ∙ f .found small .1)
+        (bit-shr near place (openingWord inside odd s) ∙ opening-past s inside odd (near + place) (omega (arith, size-le s)))
+        (bit-shr near place (closingWord inside odd s) ∙ closing-past s inside odd (near + place) (omega (arith, size-le s)))))
         (lt-or-ge (near + place) 64)
 
     depth-before : depthIn false false (drop near s) 1 place ≡ 1
-    depth-before = sym (depth-on-words place (omega (arith, in-block))) ∙ f .found small .0
+    depth-before = sym (depth-on place (omega (arith, in-block))) ∙ f .found small .0
 
     depth-behind : depthIn false false (drop near s) 1 (suc place) ≡ 0
     depth-behind =
         ap (depthIn false false (drop near s) 1) (sym (add-one place))
-        ∙ sym (depth-on-words (place + 1) (omega (arith, in-block)))
+        ∙ sym (depth-on (place + 1) (omega (arith, in-block)))
         ∙ f .found small .1
 
     pub closes-there : Closed false false (drop near s) 1 (suc place)
@@ -132,7 +113,7 @@ block-kept s kept i {inside} {odd} {w} sorted k =
 
 -- the block that ends at `end` and has the opening bracket just before `at`
 module _ (end opening closing at near : ℕ) (before : at < end) (in-it : end - at < 64) (near-is : near ≡ 64 - (end - at))
-    (opens : bit (near - 1) opening ≡ true) {place after : ℕ} (f : Finds (opening / 2 ^ near) (closing / 2 ^ near) 1 place after) (small : place < 64) where
+    (opens : bit (near - 1) opening ≡ true) {place after : ℕ} (f : FindsClosing (opening / 2 ^ near) (closing / 2 ^ near) 1 place after) (small : place < 64) where
   module _ {s : List ℕ} (b : KeptBlock s (end) (opening) (closing)) where
     place-is : b .start + near ≡ at
     place-is = omega (arith, b .end-is)
@@ -151,13 +132,13 @@ module _ (end opening closing at near : ℕ) (before : at < end) (in-it : end - 
     closes-here =
         subst (λ (x : List ℕ). Closed false false x 1 (suc place)) here
         (closes-there (drop (b .start) s) (b .inside) (b .odd) near behind
-        (subst (λ (x : ℕ). Finds (x / 2 ^ near) (closingWord (b .inside) (b .odd) (drop (b .start) s) / 2 ^ near) 1 place after) (b .opening-are)
-        (subst (λ (x : ℕ). Finds (opening / 2 ^ near) (x / 2 ^ near) 1 place after) (b .closing-are) f))
+        (subst (λ (x : ℕ). FindsClosing (x / 2 ^ near) (closingWord (b .inside) (b .odd) (drop (b .start) s) / 2 ^ near) 1 place after) (b .opening-are)
+        (subst (λ (x : ℕ). FindsClosing (opening / 2 ^ near) (x / 2 ^ near) 1 place after) (b .closing-are) f))
         small)
 
-  pub near-leads : (kept : List ℕ) → end ≡ getD kept 0 0 → opening ≡ getD kept 1 0 → closing ≡ getD kept 2 0 → Near kept at (at + place + 1)
-  near-leads kept p q r = record {
-    leads = λ s k _.
+  pub near-after : (kept : List ℕ) → end ≡ getD kept 0 0 → opening ≡ getD kept 1 0 → closing ≡ getD kept 2 0 → Near kept at (at + place + 1)
+  near-after kept p q r = record {
+    is-after = λ s k _.
         (let c = closes-here {s = s} (rw (p, q, r) (k .block (λ z. omega arith))) in
         record {
           onward = omega arith;

@@ -1,10 +1,11 @@
 -- On the way to the closing bracket the two facts and the depth are those of the definition, block by block; the place where the depth
 -- falls to 0 is then the only one. Assumes nothing.
 use mathlib.Core.Path.{_≡_, refl, sym, ap, ap₂, subst, _∙_}
-use mathlib.Core.Bool.{Bool, true, false, not, _&&_, _||_, false≢true}
+use mathlib.Core.Bool.{Bool, true, false, not, _||_, false≢true, and-eq-true-iff}
 use mathlib.Core.List.{List, []}
 use mathlib.Core.Logic.{⊎-elim}
 use Prim.Native.Nat.{ℕ, suc, _+_, _-_, _<_, _≤_}
+use native.Mathlib.Nat.{zero-add}
 use native.Mathlib.Numerals.{add-one}
 use native.Mathlib.Omega.{arith}
 use lib.Dec.{eqb}
@@ -13,17 +14,18 @@ use lib.Seq.{drop-drop, take-all}
 use borrow.Author.Tests.{eqb-true}
 use Rattle.bits.specs.Bits.{bit}
 use Rattle.bits.specs.Laws.{lt-or-ge}
-use Rattle.blocks.specs.Words.{byteAt, oddBefore, oddQuotes, inString, opensAt, closesAt, blockSize, openingWord, closingWord}
-use Rattle.blocks.specs.Laws.{Carried, size-full, size-short, inside-full, odd-full, opening-bit, closing-bit, opening-past, closing-past, odd-drop, quotes-drop}
+use Rattle.blocks.specs.Words.{oddBefore, oddQuotes, inString, opensAt, closesAt, blockSize, openingWord, closingWord}
+use Rattle.classifier.specs.Classes.{byteAt}
+use Rattle.blocks.specs.Laws.{Carried, size-full, size-short, inside-full, odd-full, opening-bit, closing-bit, opening-past, closing-past, odd-drop, quotes-drop, opens-drop, closes-drop}
 use Rattle.blocks.specs.Counts.{countedOf, SortedCounted}
 use Rattle.blocks.specs.Sorted.{Sorted}
 use Rattle.blocks.specs.declared.Counted.{Counted}
 use Rattle.blocks.specs.declared.Words.{Words}
 use Rattle.json.specs.Grammar.{putItems}
 use Rattle.leap.specs.Brackets.{depthAt, depthIn, Closed, Leaves}
-use Rattle.leap.specs.BracketLaws.{depth-none-at, depth-calm, depth-same, depth-drop, closed-at, closed-once}
+use Rattle.leap.specs.BracketLaws.{depth-none-at, depth-falls, depth-same, depth-drop, closed-at, closed-once}
 use Rattle.leap.specs.ContainerEnds.{items-closed}
-use Rattle.leap.specs.Passing.{Apart, Finds, Leads}
+use Rattle.leap.specs.Passing.{NotBoth, FindsClosing, AfterClosing}
 
 -- ---- what holds at a place
 
@@ -78,7 +80,7 @@ tracked-start {s} {at} =
 
 module _ {s : List ℕ} {at i : ℕ} {inside odd : Bool} {n : ℕ} (v : Tracked s at i inside odd n) where
   -- the record ends first
-  pub tracked-out : length s ≤ i → Leads s at i
+  pub tracked-out : length s ≤ i → AfterClosing s at i
   tracked-out h = record {
     onward = v .onward;
     within = v .within;
@@ -102,8 +104,7 @@ falls-inside s inside odd n i before behind = ⊎-elim
     (λ (l : i < length s). l)
     (λ (l : length s ≤ i).
     let z = no-bracket-past s inside odd i l in
-    let same = depth-calm (opensAt inside odd s) (closesAt inside odd s) n i (z .0) (z .1) in
-    absurd (omega (arith, before, behind)))
+    absurd (depth-falls (opensAt inside odd s) (closesAt inside odd s) n i before behind (z .0) (z .1)))
     (lt-or-ge i (length s))
 
 past-block : (s : List ℕ) (j : ℕ) → j < 64 → blockSize s ≤ j → length s ≤ j
@@ -125,9 +126,20 @@ block-closes s inside odd j h = ⊎-elim
     (λ (l : blockSize s ≤ j). closing-past s inside odd j l ∙ sym (no-bracket-past s inside odd j (past-block s j h l) .1))
     (lt-or-ge j (blockSize s))
 
-pub both : (x y : Bool) → (x && y) ≡ true → x ≡ true
-both true y e = refl
-both false y e = e
+-- two words that have the brackets of a block from place `near` on, where the two facts are x and y, tell the depth from there on
+module _ (s : List ℕ) (inside odd : Bool) (near : ℕ) {x y : Bool} (facts : Carried inside odd s near x y) (opening closing : ℕ)
+    (opens : (j : ℕ) → bit j opening ≡ bit (near + j) (openingWord inside odd s))
+    (closes : (j : ℕ) → bit j closing ≡ bit (near + j) (closingWord inside odd s)) where
+  pub word-depth : (n i : ℕ) → near + i ≤ 64 → depthAt (λ j. bit j opening) (λ j. bit j closing) n i ≡ depthIn x y (drop near s) n i
+  unfolding depthIn
+  word-depth n i h =
+      depth-same _ _ (opensAt x y (drop near s)) (closesAt x y (drop near s)) n i
+      (λ j l.
+      opens j ∙ block-opens s inside odd (near + j) (omega arith) ∙ sym (opens-drop s inside odd near j)
+      ∙ ap₂ (λ (u v : Bool). opensAt u v (drop near s) j) (facts .quoted-is) (facts .escaped-is))
+      (λ j l.
+      closes j ∙ block-closes s inside odd (near + j) (omega arith) ∙ sym (closes-drop s inside odd near j)
+      ∙ ap₂ (λ (u v : Bool). closesAt u v (drop near s) j) (facts .quoted-is) (facts .escaped-is))
 
 one-kind : (b : ℕ) → (eqb b 0x5B || eqb b 0x7B) ≡ true → (eqb b 0x5D || eqb b 0x7D) ≡ true → ⊥
 one-kind b p q = go (eqb b 0x5B) refl (eqb b 0x7B) refl p
@@ -144,10 +156,10 @@ no-both : (s : List ℕ) (inside odd : Bool) (j : ℕ) → opensAt inside odd s 
 unfolding opensAt closesAt
 no-both s inside odd j p q =
     one-kind (byteAt s j)
-    (both (eqb (byteAt s j) 0x5B || eqb (byteAt s j) 0x7B) (not (inString inside odd s j)) p)
-    (both (eqb (byteAt s j) 0x5D || eqb (byteAt s j) 0x7D) (not (inString inside odd s j)) q)
+    (and-eq-true-iff (eqb (byteAt s j) 0x5B || eqb (byteAt s j) 0x7B) (not (inString inside odd s j)) .0 p .0)
+    (and-eq-true-iff (eqb (byteAt s j) 0x5D || eqb (byteAt s j) 0x7D) (not (inString inside odd s j)) .0 q .0)
 
-words-apart : (s : List ℕ) (inside odd : Bool) → Apart (openingWord inside odd s) (closingWord inside odd s)
+words-apart : (s : List ℕ) (inside odd : Bool) → NotBoth (openingWord inside odd s) (closingWord inside odd s)
 words-apart s inside odd j p q = ⊎-elim
     (λ (l : j < blockSize s). no-both s inside odd j (sym (opening-bit s inside odd j l) ∙ p) (sym (closing-bit s inside odd j l) ∙ q))
     (λ (l : blockSize s ≤ j). false≢true (sym (opening-past s inside odd j l) ∙ p))
@@ -162,28 +174,29 @@ module _ {s : List ℕ} {at i : ℕ} {inside odd : Bool} {n : ℕ} (v : Tracked 
   pub sorted : Sorted (drop i s) inside odd w
   sorted = rw (take-all (length s - i) (drop i s) (rw (length-drop i s) (omega arith))) at given
 
-  pub apart : Apart (w .opening) (w .closing)
+  pub apart : NotBoth (w .opening) (w .closing)
   apart = rw (sorted .opening-are, sorted .closing-are) (words-apart (drop i s) inside odd)
 
-  -- the depth in the block, by the words
-  word-depth : (j : ℕ) → j ≤ 64 → depthAt (λ k. bit k (w .opening)) (λ k. bit k (w .closing)) n j ≡ depthIn inside odd (drop i s) n j
-  unfolding depthIn
-  word-depth j h = depth-same _ _ (opensAt inside odd (drop i s)) (closesAt inside odd (drop i s)) n j
-      (λ k l. ap (bit k) (sorted .opening-are) ∙ block-opens (drop i s) inside odd k (omega arith))
-      (λ k l. ap (bit k) (sorted .closing-are) ∙ block-closes (drop i s) inside odd k (omega arith))
+  -- the depth in the block
+  depth-here : (j : ℕ) → j ≤ 64 → depthAt (λ k. bit k (w .opening)) (λ k. bit k (w .closing)) n j ≡ depthIn inside odd (drop i s) n j
+  unfolding oddQuotes oddBefore
+  depth-here j h =
+      word-depth (drop i s) inside odd 0 (record { quoted-is = refl; escaped-is = refl }) (w .opening) (w .closing)
+      (λ k. ap₂ bit (sym (zero-add k)) (sorted .opening-are)) (λ k. ap₂ bit (sym (zero-add k)) (sorted .closing-are))
+      n j (omega arith)
 
-  module _ {place after : ℕ} (f : Finds (w .opening) (w .closing) n place after) where
+  module _ {place after : ℕ} (f : FindsClosing (w .opening) (w .closing) n place after) where
     block-depth : (j : ℕ) → j ≤ 64 → depthAt (λ k. bit k (w .opening)) (λ k. bit k (w .closing)) n j ≡ depthIn false false (drop at s) 1 (i - at + j)
-    block-depth j h = word-depth j h ∙ ap (λ (x : List ℕ). depthIn inside odd x n j) (sym (here v)) ∙ stands-on (v .stands) j
+    block-depth j h = depth-here j h ∙ ap (λ (x : List ℕ). depthIn inside odd x n j) (sym (here v)) ∙ stands-on (v .stands) j
 
     -- the bracket that was found stands in the record
     in-record : place < 64 → place < length (drop i s)
     in-record h =
         falls-inside (drop i s) inside odd n place
-        (sym (word-depth place (omega arith)) ∙ f .found h .0)
-        (ap (depthIn inside odd (drop i s) n) (sym (add-one place)) ∙ sym (word-depth (place + 1) (omega arith)) ∙ f .found h .1)
+        (sym (depth-here place (omega arith)) ∙ f .found h .0)
+        (ap (depthIn inside odd (drop i s) n) (sym (add-one place)) ∙ sym (depth-here (place + 1) (omega arith)) ∙ f .found h .1)
 
-    pub block-found : i < length s → place < 64 → Leads s at (i + place + 1)
+    pub block-found : i < length s → place < 64 → AfterClosing s at (i + place + 1)
     block-found in-it h =
         let l = in-record h in
         let x : depthIn false false (drop at s) 1 (i - at + place) ≡ 1 = sym (block-depth place (omega arith)) ∙ f .found h .0 in
@@ -201,7 +214,7 @@ module _ {s : List ℕ} {at i : ℕ} {inside odd : Bool} {n : ℕ} (v : Tracked 
     still-open h = sym (block-depth 64 (omega arith)) ∙ f .none h .1
 
     -- the record ends in this block
-    pub block-last : i < length s → 64 ≤ place → length s - i < 64 → Leads s at (length s)
+    pub block-last : i < length s → 64 ≤ place → length s - i < 64 → AfterClosing s at (length s)
     unfolding depthIn
     block-last in-it h l = record {
       onward = omega (arith, v .onward);
@@ -248,8 +261,8 @@ module _ {s : List ℕ} {at i : ℕ} {inside odd : Bool} {n : ℕ} (v : Tracked 
 
 -- ---- a container
 
-pub leads-leaves : {s : List ℕ} {at r : ℕ} → Leads s at r → Leaves s at r
-leads-leaves {s} {at} {r} l = record {
+pub after-leaves : {s : List ℕ} {at r : ℕ} → AfterClosing s at r → Leaves s at r
+after-leaves {s} {at} {r} l = record {
   onward = l .onward;
   within = l .within;
   exact = λ k is rest e. l .exact (length (putItems is [])) (items-closed is (drop at s) rest e);

@@ -1,90 +1,53 @@
 -- Past one block, by its words three and four. Counted: while fewer closing brackets stand in it than are open, the depth after it is a sum.
 -- Bracket by bracket: below the lowest bit that is left there is no bracket that is not counted. Assumes nothing.
 use mathlib.Core.Path.{_≡_, refl, sym, ap, ap₂, _∙_}
-use mathlib.Core.Bool.{Bool, true, false, xor, _&&_, _||_, false≢true}
+use mathlib.Core.Bool.{Bool, true, false, xor, _||_, false≢true}
 use mathlib.Core.Logic.{⊎-elim}
-use Prim.Native.Nat.{ℕ, zero, suc, _+_, _-_, _*_, _/_, _%_, _^_, _<_, _≤_}
+use Prim.Native.Nat.{ℕ, zero, suc, _+_, _-_, _*_, _%_, _^_, _<_, _≤_}
 use native.Mathlib.Numerals.{add-one}
 use native.Mathlib.Omega.{arith}
 use lib.Bits.{bitXor, bitOr, xor-lt}
-use lib.Count.{ones, onesIn, ones-step, ones-le}
-use lib.Dec.{leb}
-use borrow.Author.Tests.{le-leb, lt-leb}
-use Rattle.bits.specs.Bits.{on, bit, digit, number, Lowest}
-use Rattle.bits.specs.Laws.{lt-or-ge, bit-or, bit-xor, bit-shl, bit-zero, bit-high, shifted-is, digit-lt, number-is, bit-ext}
-use Rattle.bits.specs.Truth.{truth}
+use lib.Count.{ones, ones-le}
+use borrow.Author.Tests.{eq-eqb, ne-eqb}
+use Rattle.bits.specs.Bits.{bit, digit, Lowest}
+use Rattle.bits.specs.Laws.{lt-or-ge, bit-or, bit-xor, bit-zero, bit-alone, number-is, bit-ext, countOn, ones-number}
+use Rattle.bits.specs.Truth.{xor-false, neither, or-second}
 use Rattle.leap.specs.Brackets.{afterPlace, depthAt}
 use Rattle.leap.specs.BracketLaws.{after-le, depth-quiet-to}
-use Rattle.leap.specs.Passing.{Cleared, Apart, Finds}
+use Rattle.leap.specs.Passing.{Cleared, NotBoth, FindsClosing}
 
 -- ---- one bit less
-
-one-bit : (i j : ℕ) → j < 64 → bit j (1 * 2 ^ i % 2 ^ 64) ≡ (leb i j && bit (j - i) 1)
-one-bit i j h = bit-shl 64 i j 1 h ∙ shifted-is i (λ k. bit k 1) j
-
-its-bit : (i : ℕ) → i < 64 → bit i (1 * 2 ^ i % 2 ^ 64) ≡ true
-unfolding bit on
-its-bit i h =
-    let z : i - i ≡ 0 = omega arith in
-    one-bit i i h ∙ ap₂ (λ (x : Bool) (y : ℕ). x && bit y 1) (le-leb i i (omega arith)) z
-
-no-other : (i j : ℕ) → (j ≡ i → ⊥) → bit j (1 * 2 ^ i % 2 ^ 64) ≡ false
-no-other i j ne = ⊎-elim
-    (λ (l : j < 64). ⊎-elim
-    (λ (h : j < i). one-bit i j l ∙ ap (λ (x : Bool). x && bit (j - i) 1) (lt-leb i j h))
-    (λ (h : i ≤ j). one-bit i j l ∙ ap₂ (λ (x y : Bool). x && y) (le-leb i j h) (bit-high 1 (j - i) 1 (omega arith) (omega arith)))
-    (lt-or-ge j i))
-    (λ (l : 64 ≤ j). bit-high 64 j (1 * 2 ^ i % 2 ^ 64) (omega arith) l)
-    (lt-or-ge j 64)
-
-xor-false : (x : Bool) → xor x false ≡ x
-unfolding xor
-xor-false = truth 1 (λ x. xor x false) (λ x. x) tt
 
 pub cleared : (w i : ℕ) → w < 2 ^ 64 → i < 64 → bit i w ≡ true → Cleared w i (bitXor w (1 * 2 ^ i % 2 ^ 64))
 unfolding xor
 cleared w i f s t = record {
   fits = xor-lt 64 w (1 * 2 ^ i % 2 ^ 64) f (omega arith);
-  off = bit-xor i w (1 * 2 ^ i % 2 ^ 64) ∙ ap₂ xor t (its-bit i s);
-  other = λ j ne. bit-xor j w (1 * 2 ^ i % 2 ^ 64) ∙ ap (xor (bit j w)) (no-other i j ne) ∙ xor-false (bit j w);
+  off = bit-xor i w (1 * 2 ^ i % 2 ^ 64) ∙ ap₂ xor t (bit-alone 64 i i s ∙ eq-eqb i i refl);
+  other = λ j ne. bit-xor j w (1 * 2 ^ i % 2 ^ 64) ∙ ap (xor (bit j w)) (bit-alone 64 i j s ∙ ne-eqb j i ne) ∙ xor-false (bit j w);
 }
 
 -- ---- bits counted
 
--- how many of the first m places f holds at
-unfoldable tally : (ℕ → Bool) → ℕ → ℕ
-tally f zero = 0
-tally f (suc m) = digit (f 0) + tally (λ j. f (suc j)) m
+ones-bits : (w : ℕ) → w < 2 ^ 64 → ones w ≡ countOn 64 (λ j. bit j w)
+ones-bits w h = ap ones (number-is 64 w (λ j. bit j w) h (λ i l. refl)) ∙ ones-number 64 (λ j. bit j w)
 
-ones-number : (m : ℕ) (f : ℕ → Bool) → ones (number m f) ≡ tally f m
-unfolding number tally ones onesIn
-ones-number zero f = refl
-ones-number (suc m) f =
-    let w : ℕ = number m (λ i. f (suc i)) in
-    let a : (w * 2 + digit (f 0)) % 2 ≡ digit (f 0) = omega (arith, digit-lt (f 0)) in
-    let b : (w * 2 + digit (f 0)) / 2 ≡ w = omega (arith, digit-lt (f 0)) in
-    ones-step (w * 2 + digit (f 0)) ∙ ap₂ (λ (x y : ℕ). x + ones y) a b ∙ ap (λ (x : ℕ). digit (f 0) + x) (ones-number m (λ i. f (suc i)))
+count-same : (f g : ℕ → Bool) → ((j : ℕ) → f j ≡ g j) → (m : ℕ) → countOn m f ≡ countOn m g
+unfolding countOn
+count-same f g h zero = refl
+count-same f g h (suc m) = ap₂ (λ (x : Bool) (y : ℕ). digit x + y) (h 0) (count-same (λ j. f (suc j)) (λ j. g (suc j)) (λ j. h (suc j)) m)
 
-ones-tally : (w : ℕ) → w < 2 ^ 64 → ones w ≡ tally (λ j. bit j w) 64
-ones-tally w h = ap ones (number-is 64 w (λ j. bit j w) h (λ i l. refl)) ∙ ones-number 64 (λ j. bit j w)
-
-tally-same : (f g : ℕ → Bool) → ((j : ℕ) → f j ≡ g j) → (m : ℕ) → tally f m ≡ tally g m
-unfolding tally
-tally-same f g h zero = refl
-tally-same f g h (suc m) = ap₂ (λ (x : Bool) (y : ℕ). digit x + y) (h 0) (tally-same (λ j. f (suc j)) (λ j. g (suc j)) (λ j. h (suc j)) m)
-
-tally-less : (f g : ℕ → Bool) (m i : ℕ) → i < m → f i ≡ false → g i ≡ true → ((j : ℕ) → (j ≡ i → ⊥) → f j ≡ g j) → tally f m < tally g m
-unfolding tally digit
-tally-less f g zero i h p q same = absurd (omega arith)
-tally-less f g (suc m) zero h p q same =
-    omega (arith, ap digit p, ap digit q, tally-same (λ j. f (suc j)) (λ j. g (suc j)) (λ j. same (suc j) (λ e. omega arith)) m)
-tally-less f g (suc m) (suc i) h p q same =
-    omega (arith, ap digit (same 0 (λ e. omega arith)), tally-less (λ j. f (suc j)) (λ j. g (suc j)) m i (omega arith) p q (λ j ne. same (suc j) (λ e. ne (omega arith))))
+count-less : (f g : ℕ → Bool) (m i : ℕ) → i < m → f i ≡ false → g i ≡ true → ((j : ℕ) → (j ≡ i → ⊥) → f j ≡ g j) → countOn m f < countOn m g
+unfolding countOn digit
+count-less f g zero i h p q same = absurd (omega arith)
+count-less f g (suc m) zero h p q same =
+    omega (arith, ap digit p, ap digit q, count-same (λ j. f (suc j)) (λ j. g (suc j)) (λ j. same (suc j) (λ e. omega arith)) m)
+count-less f g (suc m) (suc i) h p q same =
+    omega (arith, ap digit (same 0 (λ e. omega arith)), count-less (λ j. f (suc j)) (λ j. g (suc j)) m i (omega arith) p q (λ j ne. same (suc j) (λ e. ne (omega arith))))
 
 -- with a bit less there are fewer
 ones-less : {w i r : ℕ} → w < 2 ^ 64 → i < 64 → bit i w ≡ true → Cleared w i r → ones r < ones w
 ones-less {w} {i} {r} fw l t c =
-    omega (arith, ones-tally w fw, ones-tally r (c .fits), tally-less (λ j. bit j r) (λ j. bit j w) 64 i l (c .off) t (c .other))
+    omega (arith, ones-bits w fw, ones-bits r (c .fits), count-less (λ j. bit j r) (λ j. bit j w) 64 i l (c .off) t (c .other))
 
 -- the first place, and then the others
 depth-first : (f g : ℕ → Bool) (n m : ℕ) → depthAt f g n (suc m) ≡ depthAt (λ j. f (suc j)) (λ j. g (suc j)) (afterPlace (f 0) (g 0) n) m
@@ -93,27 +56,27 @@ depth-first f g n zero = refl
 depth-first f g n (suc m) = ap (afterPlace (f (suc m)) (g (suc m))) (depth-first f g n m)
 
 -- fewer closing brackets than are open
-counted : (f g : ℕ → Bool) → ((j : ℕ) → f j ≡ true → g j ≡ true → ⊥) → (m n : ℕ) → tally g m < n → depthAt f g n m ≡ n + tally f m - tally g m
-unfolding tally depthAt digit afterPlace
+counted : (f g : ℕ → Bool) → ((j : ℕ) → f j ≡ true → g j ≡ true → ⊥) → (m n : ℕ) → countOn m g < n → depthAt f g n m ≡ n + countOn m f - countOn m g
+unfolding countOn depthAt digit afterPlace
 counted f g x zero n h = omega arith
 counted f g x (suc m) n h =
     depth-first f g n m
     ∙ step (f 0) (g 0) n (x 0) h (counted (λ j. f (suc j)) (λ j. g (suc j)) (λ j. x (suc j)) m)
   where
-    step : (o c : Bool) (n : ℕ) → (o ≡ true → c ≡ true → ⊥) → digit c + tally (λ j. g (suc j)) m < n
-        → ((n : ℕ) → tally (λ j. g (suc j)) m < n → depthAt (λ j. f (suc j)) (λ j. g (suc j)) n m ≡ n + tally (λ j. f (suc j)) m - tally (λ j. g (suc j)) m)
-        → depthAt (λ j. f (suc j)) (λ j. g (suc j)) (afterPlace o c n) m ≡ n + (digit o + tally (λ j. f (suc j)) m) - (digit c + tally (λ j. g (suc j)) m)
+    step : (o c : Bool) (n : ℕ) → (o ≡ true → c ≡ true → ⊥) → digit c + countOn m (λ j. g (suc j)) < n
+        → ((n : ℕ) → countOn m (λ j. g (suc j)) < n → depthAt (λ j. f (suc j)) (λ j. g (suc j)) n m ≡ n + countOn m (λ j. f (suc j)) - countOn m (λ j. g (suc j)))
+        → depthAt (λ j. f (suc j)) (λ j. g (suc j)) (afterPlace o c n) m ≡ n + (digit o + countOn m (λ j. f (suc j))) - (digit c + countOn m (λ j. g (suc j)))
     step o c zero x h r = absurd (omega arith)
     step true true (suc n) x h r = absurd (x refl refl)
     step true false (suc n) x h r = r (suc (suc n)) (omega arith) ∙ omega arith
     step false true (suc n) x h r = r n (omega arith) ∙ omega arith
     step false false (suc n) x h r = r (suc n) (omega arith) ∙ omega arith
 
-pub passed-counted : {a b n opened closed : ℕ} → a < 2 ^ 64 → b < 2 ^ 64 → Apart a b → opened ≡ ones a → closed ≡ ones b → closed < n
-    → Finds a b n 64 (n + opened - closed)
+pub passed-counted : {a b n opened closed : ℕ} → a < 2 ^ 64 → b < 2 ^ 64 → NotBoth a b → opened ≡ ones a → closed ≡ ones b → closed < n
+    → FindsClosing a b n 64 (n + opened - closed)
 passed-counted {a} {b} {n} {opened} {closed} fa fb apart o c h =
-    let x : opened ≡ tally (λ j. bit j a) 64 = o ∙ ones-tally a fa in
-    let y : closed ≡ tally (λ j. bit j b) 64 = c ∙ ones-tally b fb in
+    let x : opened ≡ countOn 64 (λ j. bit j a) = o ∙ ones-bits a fa in
+    let y : closed ≡ countOn 64 (λ j. bit j b) = c ∙ ones-bits b fb in
     record {
       small = omega arith;
       few = omega (arith, o, ones-le 64 a fa);
@@ -133,14 +96,6 @@ pub record Counting (a b n left level : ℕ) : Type 0 where
   pub clear : (j : ℕ) → j < upto → bit j left ≡ false
   pub rest : (j : ℕ) → upto ≤ j → bit j left ≡ (bit j a || bit j b)
   pub level-is : depthAt (λ j. bit j a) (λ j. bit j b) n upto ≡ level
-
-neither : (x y : Bool) → (x || y) ≡ false → (x ≡ false) × (y ≡ false)
-neither true y e = absurd (false≢true (sym e))
-neither false y e = (refl, e)
-
-second : (x y : Bool) → (x || y) ≡ true → x ≡ false → y ≡ true
-second true y h e = absurd (false≢true (sym e))
-second false y h e = h
 
 -- a place that has a bracket has a closing one where it has no opening one
 one-of-two : (o c : Bool) (n : ℕ) → (o ≡ false → c ≡ true) → afterPlace o c n ≡ afterPlace o true n
@@ -185,7 +140,7 @@ module _ {a b n left level : ℕ} (v : Counting a b n left level) where
       depth-quiet-to (λ j. bit j a) (λ j. bit j b) n (v .upto) i h (λ j l r. neither (bit j a) (bit j b) (sym (v .rest j l) ∙ none j r)) ∙ v .level-is
 
   -- nothing is left
-  pub counting-none : left ≡ 0 → Finds a b n 64 level
+  pub counting-none : left ≡ 0 → FindsClosing a b n 64 level
   counting-none z = record {
     small = omega arith;
     few = omega (arith, v .few, v .small);
@@ -215,7 +170,7 @@ module _ {a b n left level : ℕ} (v : Counting a b n left level) where
     level-before = quiet i counted-before (low .none-below)
 
     closes : bit i a ≡ false → bit i b ≡ true
-    closes h = second (bit i a) (bit i b) (sym (v .rest i counted-before) ∙ next-on) h
+    closes h = or-second (bit i a) (bit i b) (sym (v .rest i counted-before) ∙ next-on) h
 
     clear-on : {rest : ℕ} → Cleared left i rest → (j : ℕ) → j < suc i → bit j rest ≡ false
     clear-on {rest} c j l = ⊎-elim
@@ -231,7 +186,7 @@ module _ {a b n left level : ℕ} (v : Counting a b n left level) where
           ap (afterPlace (bit i a) (bit i b)) level-before ∙ one-of-two (bit i a) (bit i b) level closes ∙ sym next
 
       -- none: it is the one that is looked for
-      pub counting-found : level′ ≡ 0 → Finds a b n i 0
+      pub counting-found : level′ ≡ 0 → FindsClosing a b n i 0
       counting-found z = record {
         small = omega (arith, next-lt);
         few = omega arith;

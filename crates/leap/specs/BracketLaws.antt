@@ -45,6 +45,10 @@ module _ (f g : ℕ → Bool) (n : ℕ) where
       same zero = refl
       same (suc m) = refl
 
+  -- so it falls from 1 to 0 only at a bracket
+  pub depth-falls : (i : ℕ) → depthAt f g n i ≡ 1 → depthAt f g n (suc i) ≡ 0 → f i ≡ false → g i ≡ false → ⊥
+  depth-falls i before behind p q = omega (arith, before, behind, depth-calm i p q)
+
   pub depth-quiet : (p i : ℕ) → ((j : ℕ) → p ≤ j → j < p + i → (f j ≡ false) × (g j ≡ false)) → depthAt f g n (p + i) ≡ depthAt f g n p
   depth-quiet p zero h = ap (depthAt f g n) (add-zero p)
   depth-quiet p (suc i) h =

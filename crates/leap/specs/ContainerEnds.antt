@@ -7,17 +7,19 @@ use native.Mathlib.Nat.{zero-add}
 use native.Mathlib.Omega.{arith}
 use lib.Dec.{eqb}
 use lib.ListN.{length, drop}
-use Rattle.blocks.specs.Words.{byteAt, inString, opensAt, closesAt}
+use Rattle.blocks.specs.Words.{inString, opensAt, closesAt}
+use Rattle.classifier.specs.Classes.{byteAt}
 use Rattle.blocks.specs.Laws.{Carried, carried-string}
 use Rattle.encoding.specs.Bytes.{Blanks, putBlanks}
 use Rattle.json.specs.Grammar as G
 use Rattle.json.specs.Grammar.{Kind, Key, Value, Items, More, putKey, putValue, putItems, putMore}
 use Rattle.json.specs.Append.{length-items}
 use Rattle.select.specs.Nodes.{size, keySize}
+use Rattle.scan.specs.Places.{head-of, past-value}
 use Rattle.strings.specs.Strings.{Quotes}
-use Rattle.strings.specs.Parts.{head, Flat}
-use Rattle.strings.specs.Texts.{passed-blanks, passed-comma, passed-key, passed-literal, passed-number, passed-quoted, opening-after, closing-after, container-size, empty-size, end-size, items-size, more-size}
-use Rattle.strings.specs.StringsAre.{past-value, value-marks}
+use Rattle.strings.specs.Parts.{byte-at, Flat}
+use Rattle.strings.specs.Texts.{crossed-blanks, crossed-comma, crossed-key, crossed-literal, crossed-number, crossed-quoted, opening-after, closing-after, container-size, empty-size, end-size, items-size, more-size}
+use Rattle.strings.specs.StringsAre.{value-strings}
 use Rattle.strings.specs.WordTwo.{carried-start}
 use Rattle.leap.specs.Brackets.{depthIn, Closed}
 use Rattle.leap.specs.BracketLaws.{depth-none-at, depth-quiet-to, depth-more, depth-less}
@@ -45,7 +47,7 @@ module _ (inside odd : Bool) (s : List ℕ) (m : ℕ) where
   flat-depth : {o a e : ℕ} {qs : List Quotes} → Flat inside odd s o a e qs → depthIn inside odd s m e ≡ depthIn inside odd s m a
   unfolding depthIn
   flat-depth {o} {a} {e} f =
-      depth-quiet-to (opensAt inside odd s) (closesAt inside odd s) m a e (f .marks .onward) (λ j h l. (f .no-opening j h l, f .no-closing j h l))
+      depth-quiet-to (opensAt inside odd s) (closesAt inside odd s) m a e (f .strings .onward) (λ j h l. (f .no-opening j h l, f .no-closing j h l))
 
   -- a bracket outside strings
   outside : {a : ℕ} (test : ℕ → Bool) (b : ℕ) (x : Bool) → byteAt s a ≡ b → test b ≡ x → Carried inside odd s (suc a) false false
@@ -90,55 +92,55 @@ module _ (inside odd : Bool) (s : List ℕ) (m : ℕ) where
   container-balanced : {k : Kind} (is : Items k) → ItemsShut is → ValueBalanced (G.container k is)
   unfolding putValue
   container-balanced {k} is inner rest a n e c h =
-      let t = head s a (G.opening k) (putItems is rest) e in
-      let d = opening-after k (t .byte) c in
-      shut-at (container-size is a) (inner rest (suc a) (suc n) (t .next) d (opens k n (t .byte) d h)) .shut
+      let t = head-of s a (G.opening k) (putItems is rest) e in
+      let d = opening-after k (byte-at t) c in
+      shut-at (container-size is a) (inner rest (suc a) (suc n) (t .rest-is) d (opens k n (byte-at t) d h)) .shut
 
   close-shut : (k : Kind) (w : Blanks) (rest : List ℕ) (a n : ℕ) → drop a s ≡ putBlanks w (G.closing k ∷ rest) → Carried inside odd s a false false
       → depthIn inside odd s m a ≡ suc n → Shut (suc (a + length w)) n
   close-shut k w rest a n e c h =
-      let b = passed-blanks {o = 0} w (G.closing k ∷ rest) a e c in
-      let t = head s (a + length w) (G.closing k) rest (b .here) in
+      let b = crossed-blanks {o = 0} w (G.closing k ∷ rest) a e c in
+      let t = head-of s (a + length w) (G.closing k) rest (b .here) in
       let o : depthIn inside odd s m (a + length w) ≡ suc n = flat-depth (b .flat) ∙ h in
       record {
         last = a + length w;
         next = refl;
         still-open = o;
-        shut = closes k n (t .byte) (closing-after k (t .byte) (b .flat .marks .after)) o;
+        shut = closes k n (byte-at t) (closing-after k (byte-at t) (b .flat .strings .after)) o;
       }
 
   item-shut : {k : Kind} (key : Key k) (v : Value) (r : More k) → ValueBalanced v → MoreShut r
       → (rest : List ℕ) (a n : ℕ) → drop a s ≡ putKey k key (putValue v (putMore r rest)) → Carried inside odd s a false false
       → depthIn inside odd s m a ≡ suc n → Shut (a + keySize k key + size v + length (putMore r [])) n
   item-shut {k} key v r inner after rest a n e c h =
-      let f = passed-key {o = 0} k key (putValue v (putMore r rest)) a refl e c in
+      let f = crossed-key {o = 0} k key (putValue v (putMore r rest)) a refl e c in
       let b : ℕ = a + keySize k key in
-      after rest (b + size v) n (past-value s v (putMore r rest) b (f .here))
-      (value-marks inside odd s 0 v (putMore r rest) b (0 + b) refl (f .here) (f .flat .marks .after) .after)
-      (inner (putMore r rest) b n (f .here) (f .flat .marks .after) (flat-depth (f .flat) ∙ h))
+      after rest (b + size v) n (past-value s b v (putMore r rest) (f .here))
+      (value-strings inside odd s 0 v (putMore r rest) b (0 + b) refl (f .here) (f .flat .strings .after) .after)
+      (inner (putMore r rest) b n (f .here) (f .flat .strings .after) (flat-depth (f .flat) ∙ h))
 
   mutual
     unfolding putValue putItems putMore
 
     value-balanced : (v : Value) → ValueBalanced v
-    value-balanced (G.literal l) = λ rest a n e c h. flat-depth (passed-literal {o = 0} l rest a e c .flat) ∙ h
-    value-balanced (G.number g i f x) = λ rest a n e c h. flat-depth (passed-number {o = 0} g i f x rest a e c .flat) ∙ h
-    value-balanced (G.string cs) = λ rest a n e c h. flat-depth (passed-quoted {o = 0} cs rest a refl e c .flat) ∙ h
+    value-balanced (G.literal l) = λ rest a n e c h. flat-depth (crossed-literal {o = 0} l rest a e c .flat) ∙ h
+    value-balanced (G.number g i f x) = λ rest a n e c h. flat-depth (crossed-number {o = 0} g i f x rest a e c .flat) ∙ h
+    value-balanced (G.string cs) = λ rest a n e c h. flat-depth (crossed-quoted {o = 0} cs rest a refl e c .flat) ∙ h
     value-balanced (G.container k is) = container-balanced is (items-shut is)
 
     items-shut : {k : Kind} (is : Items k) → ItemsShut is
     items-shut {k} (G.empty w) = λ rest a n e c h. shut-at (empty-size k w a) (close-shut k w rest a n e c h)
     items-shut {k} (G.items w key v r) = λ rest a n e c h.
-        let b = passed-blanks {o = 0} w (putKey k key (putValue v (putMore r rest))) a e c in
+        let b = crossed-blanks {o = 0} w (putKey k key (putValue v (putMore r rest))) a e c in
         shut-at (items-size w key v r a)
-        (item-shut key v r (value-balanced v) (more-shut r) rest (a + length w) n (b .here) (b .flat .marks .after) (flat-depth (b .flat) ∙ h))
+        (item-shut key v r (value-balanced v) (more-shut r) rest (a + length w) n (b .here) (b .flat .strings .after) (flat-depth (b .flat) ∙ h))
 
     more-shut : {k : Kind} (r : More k) → MoreShut r
     more-shut {k} (G.end w) = λ rest a n e c h. shut-at (end-size k w a) (close-shut k w rest a n e c h)
     more-shut {k} (G.more w w′ key v r) = λ rest a n e c h.
-        let b = passed-comma {o = 0} w w′ (putKey k key (putValue v (putMore r rest))) a e c in
+        let b = crossed-comma {o = 0} w w′ (putKey k key (putValue v (putMore r rest))) a e c in
         shut-at (more-size w w′ key v r a)
-        (item-shut key v r (value-balanced v) (more-shut r) rest (a + length w + 1 + length w′) n (b .here) (b .flat .marks .after) (flat-depth (b .flat) ∙ h))
+        (item-shut key v r (value-balanced v) (more-shut r) rest (a + length w + 1 + length w′) n (b .here) (b .flat .strings .after) (flat-depth (b .flat) ∙ h))
 
 -- the items of a container, from behind its opening bracket on, end where that bracket is closed
 pub items-closed : {k : Kind} (is : Items k) (s rest : List ℕ) → s ≡ putItems is rest → Closed false false s 1 (length (putItems is []))

@@ -15,11 +15,11 @@ pub record Cleared (w i r : ℕ) : Type 0 where
   pub other : (j : ℕ) → (j ≡ i → ⊥) → bit j r ≡ bit j w
 
 -- no place has both an opening and a closing bracket
-abbrev pub Apart : (opening closing : ℕ) → Type 0
-Apart a b = (j : ℕ) → bit j a ≡ true → bit j b ≡ true → ⊥
+abbrev pub NotBoth : (opening closing : ℕ) → Type 0
+NotBoth a b = (j : ℕ) → bit j a ≡ true → bit j b ≡ true → ⊥
 
 -- the place of the bracket that closes the last of n open ones, by a block's words three and four; or 64, and how many are open after the block
-pub record Finds (opening closing n place after : ℕ) : Type 0 where
+pub record FindsClosing (opening closing n place after : ℕ) : Type 0 where
   pub small : place ≤ 64
   pub few : after ≤ n + 64
   pub found : place < 64 → (depthAt (λ j. bit j opening) (λ j. bit j closing) n place ≡ 1)
@@ -27,7 +27,7 @@ pub record Finds (opening closing n place after : ℕ) : Type 0 where
   pub none : 64 ≤ place → (1 ≤ after) × (depthAt (λ j. bit j opening) (λ j. bit j closing) n 64 ≡ after)
 
 -- r is the place after the bracket that closes the container whose opening bracket stands just before `at`; the length where none does
-pub record Leads (s : List ℕ) (at r : ℕ) : Type 0 where
+pub record AfterClosing (s : List ℕ) (at r : ℕ) : Type 0 where
   pub onward : at ≤ r
   pub within : at ≤ length s → r ≤ length s
   pub exact : (e : ℕ) → Closed false false (drop at s) 1 e → r ≡ at + e
@@ -48,4 +48,4 @@ pub record Kept (s kept : List ℕ) : Type 0 where
 
 -- by what is kept of some s, r is the place after the closing bracket; or 0
 pub record Near (kept : List ℕ) (at r : ℕ) : Type 0 where
-  pub leads : (s : List ℕ) → Kept s kept → (r ≡ 0 → ⊥) → Leads s at r
+  pub is-after : (s : List ℕ) → Kept s kept → (r ≡ 0 → ⊥) → AfterClosing s at r

@@ -8,11 +8,13 @@ use blocks::sort_full;
 ghost use mathlib.Core.Path.{_≡_};
 ghost use mathlib.Core.List.{List};
 ghost use mathlib.Core.Bool.{true};
-ghost use Prim.Native.Nat.{ℕ, _≤_, _<_};
+ghost use Prim.Native.Nat.{ℕ, _+_, _≤_, _<_};
+ghost use lib.ListN.{length};
 ghost use Rattle.bits.specs.Bits.{bit};
 ghost use Rattle.blocks.specs.Counts.{countedOf, SortedCounted};
+ghost use Rattle.json.specs.Verdict.{maxBytes};
 ghost use Rattle.leap.specs.Brackets.{afterPlace, Leaves};
-ghost use Rattle.leap.specs.Passing.{Cleared, Apart, Finds, Leads, Kept, Near};
+ghost use Rattle.leap.specs.Passing.{Cleared, NotBoth, FindsClosing, AfterClosing, Kept, Near};
 
 const BLOCK: usize = 64;
 
@@ -47,7 +49,7 @@ fn without(w: u64, i: usize) -> u64
 
 // How many brackets are open after the bracket at place i of a block, where `level` are before it.
 fn next_level(opening: u64, i: usize, level: usize) -> usize
-    requires { ⌜ (i < 64) × (1 ≤ level) × (level ≤ 100000064) ⌝ }
+    requires { ⌜ (i < 64) × (1 ≤ level) × (level ≤ maxBytes + 65) ⌝ }
     ensures { λ r. ⌜ r ≡ afterPlace (bit i opening) true level ⌝ }
 {
     if has(opening, i) {
@@ -58,8 +60,8 @@ fn next_level(opening: u64, i: usize, level: usize) -> usize
 
 // Finds the bracket that closes the last of `depth` open ones, bracket by bracket.
 fn find_closing(opening: u64, closing: u64, depth: usize) -> Found
-    requires { ⌜ (1 ≤ depth) × (depth ≤ 100000000) ⌝ }
-    ensures { λ r. ⌜ Finds opening closing depth (r .place) (r .depth) ⌝ }
+    requires { ⌜ (1 ≤ depth) × (depth ≤ maxBytes + 1) ⌝ }
+    ensures { λ r. ⌜ FindsClosing opening closing depth (r .place) (r .depth) ⌝ }
 {
     let mut left = opening | closing;
     let mut level = depth;
@@ -79,9 +81,9 @@ fn find_closing(opening: u64, closing: u64, depth: usize) -> Found
 
 // The same in a block whose brackets are counted: with fewer closing brackets than are open it is passed whole.
 fn pass_block(block: Counted, depth: usize) -> Found
-    requires { ⌜ (1 ≤ depth) × (depth ≤ 100000000) ⌝ }
-    requires { ⌜ (block ≡ countedOf (block .words)) × Apart (block .words .opening) (block .words .closing) ⌝ }
-    ensures { λ r. ⌜ Finds (block .words .opening) (block .words .closing) depth (r .place) (r .depth) ⌝ }
+    requires { ⌜ (1 ≤ depth) × (depth ≤ maxBytes + 1) ⌝ }
+    requires { ⌜ (block ≡ countedOf (block .words)) × NotBoth (block .words .opening) (block .words .closing) ⌝ }
+    ensures { λ r. ⌜ FindsClosing (block .words .opening) (block .words .closing) depth (r .place) (r .depth) ⌝ }
 {
     let opened = block.opened as usize;
     let closed = block.closed as usize;
@@ -132,9 +134,9 @@ pub fn none_kept() -> [u64; KEPT]
 // The place after the closing bracket of the container whose opening bracket stands just before `at`, block by block; the length where
 // none closes it. The words of the block that has the closing bracket are kept.
 fn leave_blocks(record: &[u8], at: usize, kept: &mut [u64; KEPT]) -> usize
-    requires { do ⌜ (← ⟦record.len()⟧) ≤ 16777216 ⌝ }
+    requires { ⌜ length (now «record») ≤ maxBytes ⌝ }
     requires { ⌜ Kept (now «record») (now kept) ⌝ }
-    ensures { λ r. ⌜ Leads (now («record» .entry)) at r ⌝ }
+    ensures { λ r. ⌜ AfterClosing (now («record» .entry)) at r ⌝ }
     ensures { λ _. ⌜ Kept (now («record» .entry)) (now (kept .exit)) ⌝ }
 {
     let mut i = at;
@@ -167,7 +169,7 @@ fn leave_blocks(record: &[u8], at: usize, kept: &mut [u64; KEPT]) -> usize
 // The same by the words that are kept, where these have both brackets; and else 0. Their opening bracket just before `at` shows that they
 // are the words from there on.
 fn leave_near(at: usize, kept: &[u64; KEPT]) -> usize
-    requires { ⌜ at ≤ 16777216 ⌝ }
+    requires { ⌜ at ≤ maxBytes ⌝ }
     ensures { λ r. ⌜ Near (now (kept .entry)) at r ⌝ }
 {
     let end = kept[END] as usize;
@@ -194,7 +196,7 @@ fn leave_near(at: usize, kept: &[u64; KEPT]) -> usize
 
 // The place after the closing bracket of the container whose opening bracket stands just before `at`.
 pub fn leave(record: &[u8], at: usize, kept: &mut [u64; KEPT]) -> usize
-    requires { do ⌜ (← ⟦record.len()⟧) ≤ 16777216 ⌝ }
+    requires { ⌜ length (now «record») ≤ maxBytes ⌝ }
     requires { ⌜ Kept (now «record») (now kept) ⌝ }
     ensures { λ r. ⌜ Leaves (now («record» .entry)) at r ⌝ }
     ensures { λ _. ⌜ Kept (now («record» .entry)) (now (kept .exit)) ⌝ }

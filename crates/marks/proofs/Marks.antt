@@ -15,13 +15,13 @@ use lib.Pow.{shl-exact, pow-pos, pow-mono}
 use Rattle.bits.specs.Bits.{bit, number}
 use Rattle.bits.specs.Laws.{lt-or-ge, bit-and, bit-or, bit-zero, bit-shl, bit-test, number-of, shifted}
 use Rattle.bits.specs.Truth.{truth}
-use Rattle.query.specs.Holds.{Holds, deepAt, everyAt, namedAt, nameAt}
+use Rattle.query.specs.Holds.{Holds, everyAt, namedAt, nameAt}
 use Rattle.query.specs.Steps as S
-use Rattle.query.specs.Steps.{Step, Selector}
+use Rattle.query.specs.Steps.{Step, Selector, isDeep}
 use Rattle.query.specs.declared.compiled.Compiled.{Compiled}
 use Rattle.select.specs.Nodes.{Label, member, element}
 use Rattle.select.specs.MarksStep.{stepHits, step-some}
-use Rattle.select.specs.Ways.{sameName, hits, isDeep}
+use Rattle.select.specs.Ways.{sameName, hits}
 use Rattle.automaton.specs.State.{nextMark, nextMarks, pickAt, nextPicked}
 use Rattle.marks.specs.Advances.{namedHit, LabelIs, by-name, by-position, Taken, Advances}
 
@@ -53,11 +53,6 @@ no-step x i l = go (getElem? x i) refl
     go : (o : Option Step) → getElem? x i ≡ o → getElem? x i ≡ none
     go none e = e
     go (some s) e = absurd (omega (arith, step-some x i e))
-
-deep-is : (o : Option Step) → deepAt o ≡ isDeep o
-unfolding isDeep
-deep-is none = refl
-deep-is (some s) = refl
 
 module _ (q : List ℕ) (c : Compiled) (m : ℕ) (name : List ℕ) where
   pub taken-element : (o : Bool) → o ≡ false → Taken q c m name o (bitAnd m (c .every))
@@ -150,7 +145,7 @@ module _ (q : List ℕ) (c : Compiled) (m : ℕ) (name : List ℕ) (o : Bool) (t
     kept : (i : ℕ) → bit i (bitAnd m (c .deep)) ≡ (isDeep (getElem? x i) && bit i m)
     kept i =
         bit-and i m (c .deep)
-        ∙ ap (λ (b : Bool). bit i m && b) (h .deep i ∙ deep-is (getElem? x i))
+        ∙ ap (λ (b : Bool). bit i m && b) (h .deep i)
         ∙ and-comm (bit i m) (isDeep (getElem? x i))
 
     moved : (i : ℕ) → i < 16 → bit i unmasked ≡ (shifted 1 (λ j. bit j t) i || (isDeep (getElem? x i) && bit i m))

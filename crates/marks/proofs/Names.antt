@@ -9,7 +9,7 @@ use borrow.Author.Tests.{eq-eqb, ne-eqb}
 use lib.Dec.{eqb}
 use lib.ListN.{length, getD}
 use lib.Seq.{slice, slice-cons, slice-empty, length-slice}
-use Rattle.select.specs.Truth.{sameName-is}
+use Rattle.select.specs.HitsAre.{sameName-is}
 use Rattle.select.specs.Ways.{sameName}
 
 is-not : (b : Bool) → (b ≡ true → ⊥) → false ≡ b

@@ -12,11 +12,11 @@ use lib.Seq.{getD-set-same, getD-set-other, slice, slice-empty}
 use Rattle.bits.specs.Bits.{bit}
 use Rattle.query.specs.declared.step.Found.{Found}
 use Rattle.query.specs.declared.compiled.Compiled.{Compiled}
-use Rattle.query.specs.Steps.{Step}
+use Rattle.query.specs.Steps.{Step, isDeep}
 use Rattle.query.specs.Read.{nameBytes}
 use Rattle.query.specs.Verdict.{maxSteps}
 use Rattle.query.specs.Reader.{selectorAt, placedAt, Bounded}
-use Rattle.query.specs.Holds.{isEvery, isNamed, deepAt, everyAt, namedAt, nameAt, Holds}
+use Rattle.query.specs.Holds.{isEvery, isNamed, everyAt, namedAt, nameAt, Holds}
 
 -- the elements of a list with one more
 module _ (s : Step) where
@@ -117,7 +117,7 @@ module _ (q : List ℕ) (x : List Step) (c : Compiled) (f : Found) (d e n : ℕ)
   holds-more = record {
     count = omega (arith, w .count, length-append x (placedAt q f .step ∷ []));
     few = omega (arith, w .count, length-append x (placedAt q f .step ∷ []));
-    deep = bit-more x (placedAt q f .step) (c .count) (w .count) deepAt refl (c .deep) d (f .deep) refl deep (w .deep);
+    deep = bit-more x (placedAt q f .step) (c .count) (w .count) isDeep refl (c .deep) d (f .deep) refl deep (w .deep);
     every = bit-more x (placedAt q f .step) (c .count) (w .count) everyAt refl (c .every) e (f .every) (every-found q f) every (w .every);
     named = bit-more x (placedAt q f .step) (c .count) (w .count) namedAt refl (c .named) n (not (f .every)) (named-found q f) named (w .named);
     starts-length = simp length-set (w .starts-length);

@@ -8,7 +8,7 @@ use lib.ListN.{length, getD, getElem?, replicate}
 use lib.Seq.{slice}
 use Rattle.bits.specs.Bits.{bit}
 use Rattle.query.specs.declared.compiled.Compiled.{Compiled}
-use Rattle.query.specs.Steps.{Selector, name, every, Step}
+use Rattle.query.specs.Steps.{Selector, name, every, Step, isDeep}
 use Rattle.query.specs.Read.{nameBytes}
 use Rattle.query.specs.Verdict.{maxSteps}
 
@@ -20,11 +20,7 @@ abbrev pub isNamed : Selector → Bool
 isNamed (name w) = true
 isNamed every = false
 
--- of a step, if there is one: whether it is deep, takes `*`, takes a name, and the bytes of its name
-
-abbrev pub deepAt : Option Step → Bool
-deepAt none = false
-deepAt (some x) = x .deep
+-- of a step, if there is one: whether it takes `*`, whether it takes a name, and the bytes of its name
 
 abbrev pub everyAt : Option Step → Bool
 everyAt none = false
@@ -42,7 +38,7 @@ nameAt (some x) = nameBytes (x .selector)
 pub record Holds (q : List ℕ) (x : List Step) (c : Compiled) : Type 0 where
   pub count : c .count ≡ length x
   pub few : length x ≤ maxSteps
-  pub deep : (i : ℕ) → bit i (c .deep) ≡ deepAt (getElem? x i)
+  pub deep : (i : ℕ) → bit i (c .deep) ≡ isDeep (getElem? x i)
   pub every : (i : ℕ) → bit i (c .every) ≡ everyAt (getElem? x i)
   pub named : (i : ℕ) → bit i (c .named) ≡ namedAt (getElem? x i)
   pub starts-length : length (c .starts) ≡ maxSteps

@@ -8,17 +8,10 @@ use native.Mathlib.Omega.{arith}
 use lib.Dec.{eqb}
 use lib.ListN.{drop, getD}
 use borrow.Author.Tests.{eq-eqb, ne-eqb}
-use Rattle.bits.specs.Truth.{truth}
+use Rattle.bits.specs.Truth.{truth, xor-false, false-xor}
 use Rattle.blocks.specs.Laws.{backslash-drop}
-use Rattle.blocks.specs.Words.{byteAt, isBackslash, oddBefore}
-
-xor-false : (x : Bool) → xor x false ≡ x
-unfolding xor
-xor-false = truth 1 (λ x. xor x false) (λ x. x) tt
-
-false-xor : (x : Bool) → xor false x ≡ x
-unfolding xor
-false-xor = truth 1 (xor false) (λ x. x) tt
+use Rattle.blocks.specs.Words.{oddBefore}
+use Rattle.classifier.specs.Classes.{byteAt, isBackslash}
 
 xor-not : (x y : Bool) → xor x (not y) ≡ xor (not x) y
 unfolding xor

@@ -1,7 +1,7 @@
 -- From runs of bytes to parts of the grammar: where a run of the right kind starts, the part that stands there is the run. Assumes nothing.
 use mathlib.Core.Path.{_≡_, refl, sym, ap, ap₂, _∙_}
 use mathlib.Core.List.{List, [], _∷_, _++_}
-use mathlib.Core.Bool.{Bool, true, false, not, _&&_, false≢true, and-false}
+use mathlib.Core.Bool.{Bool, true, false, not, false≢true, and-false, and-eq-true-iff}
 use Prim.Native.Nat.{ℕ, suc, _+_, _-_, _≤_, _<_}
 use native.Mathlib.Numerals.{add-one, add-two}
 use native.Mathlib.Omega.{arith}
@@ -9,8 +9,10 @@ use lib.Dec.{eqb, ltb}
 use lib.ListN.{length, take, drop, getD, length-drop}
 use lib.Seq.{slice, drop-drop, take-append-seam}
 use borrow.Author.Tests.{ltb-true, ltb-false, not-true, ne-eqb}
-use Rattle.blocks.specs.Laws.{or-parts, odd-drop}
-use Rattle.blocks.specs.Words.{byteAt, isBackslash, oddBefore}
+use Rattle.bits.specs.Truth.{neither}
+use Rattle.blocks.specs.Laws.{odd-drop}
+use Rattle.blocks.specs.Words.{oddBefore}
+use Rattle.classifier.specs.Classes.{byteAt, isBackslash}
 use Rattle.encoding.specs.Class.{classOf}
 use Rattle.encoding.specs.Bytes.{Blanks, putBlanks, putIn}
 use Rattle.encoding.specs.BytesLaws.{blanks-split, length-blanks}
@@ -88,14 +90,10 @@ run-blanks {s} {a} {r} h = record { onward = h .passed .forward; within = h .pas
         omega (arith, run-exact (putBlanks w []) rest (all-blanks w) (solid-stops rest f) (e ∙ blanks-split w rest) h, length-blanks w [])
 
 -- literals and numbers
-and-true : (x y : Bool) → (x && y) ≡ true → (x ≡ true) × (y ≡ true)
-and-true true y h = (refl, h)
-and-true false y h = (h, absurd (false≢true h))
-
 all-word : (xs : List ℕ) → wordy xs ≡ true → AllOf isWordByte xs
 unfolding wordy isWordByte
 all-word [] h = tt
-all-word (b ∷ xs) h = let (x, y) = and-true (not (endsWord b)) (wordy xs) h in (x, all-word xs y)
+all-word (b ∷ xs) h = let (x, y) = and-eq-true-iff (not (endsWord b)) (wordy xs) .0 h in (x, all-word xs y)
 
 stopped-stops : (rest : List ℕ) → stopped rest ≡ true → Stops isWordByte rest
 unfolding stopped isWordByte
@@ -194,7 +192,7 @@ first-quote {s} {rest} {e} {i} {q} [] d f run =
     }
 first-quote {s} {rest} {e} {i} {q} (plain b n ∷ ps) d f run =
     let x = head-of s i b (putPieces ps (0x22 ∷ rest)) d in
-    let (no-quote, no-backslash) = or-parts (eqb b 0x22) (eqb b 0x5C) n in
+    let (no-quote, no-backslash) = neither (eqb b 0x22) (eqb b 0x5C) n in
     let onward = run-next run (x .inside) (ap unquoted (x .byte-is) ∙ ap not no-quote) in
     past-piece 1 (add-one i) (onward .passed .forward) (rw d (plain-even b (putPieces ps (0x22 ∷ rest)) no-backslash))
     (first-quote ps (x .rest-is) (omega arith) onward)

@@ -3,11 +3,11 @@ use mathlib.Core.Path.{_≡_, refl, sym, ap, ap₂, _∙_}
 use mathlib.Core.List.{List, [], _∷_, _++_}
 use mathlib.Core.Bool.{Bool, true, false, not, _&&_, _||_, false≢true}
 use mathlib.Core.Logic.{⊎-elim}
-use Prim.Native.Nat.{ℕ, suc, _+_}
+use Prim.Native.Nat.{ℕ, suc}
 use native.Mathlib.Omega.{arith}
 use lib.Dec.{T, eqb, leb, le→leb}
 use borrow.Author.Tests.{not-true, ne-eqb}
-use Rattle.bits.specs.Truth.{allBelow, all-at}
+use Rattle.bits.specs.Truth.{of-T, allBelow, all-at}
 use Rattle.encoding.specs.Bytes as B
 use Rattle.encoding.specs.Bytes.{In, putIn, Blank, Blanks, blankByte, putBlanks}
 use Rattle.encoding.specs.BytesLaws.{in-bounds}
@@ -21,10 +21,6 @@ use Rattle.json.specs.Grammar.{putLiteral, putMinus, putInt, putFrac, putExp, p
 use Rattle.swar.specs.Kinds.{inner, gap}
 use Rattle.scan.specs.Scans.{isWordByte}
 use Rattle.scan.specs.Shape.{endsWord, solid, starts, stopped, wordy, Piece, plain, escaped, putPieces}
-
-of-T : (b : Bool) → T b → b ≡ true
-of-T true t = refl
-of-T false t = absurd t
 
 -- a test that passes at every byte of a range
 unfoldable passes : (lo hi : ℕ) → (ℕ → Bool) → Bool

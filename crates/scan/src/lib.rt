@@ -26,13 +26,13 @@ fn ends_word(classes: &[u8; 256], b: u8) -> bool
     ensures { λ r. ⌜ r ≡ endsWord b ⌝ }
 {
     let c = encoding::class(classes, b);
-    if c == 2 {
+    if c == encoding::CLOSING {
         return true;
     }
-    if c == 4 {
+    if c == encoding::COMMA {
         return true;
     }
-    c == 7
+    c == encoding::BLANK
 }
 
 // The place after the blanks at `at`: a checked record has no other bytes up to the space outside its strings.

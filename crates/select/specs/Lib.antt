@@ -7,7 +7,7 @@ pub mod Nodelist
 pub mod VisitsMap
 pub mod Children
 pub mod Reach
-pub mod Truth
+pub mod HitsAre
 pub mod PickedIs
 pub mod Order
 pub mod SpansAre

@@ -1,10 +1,10 @@
 -- Marks, frames and the peak (document 01, "Marks, frames, the pile").
 use mathlib.Core.Path.{_≡_}
 use mathlib.Core.Logic.{_↔_}
-use mathlib.Core.List.{List}
-use mathlib.Core.Bool.{true}
+use mathlib.Core.List.{List, List·Memᴰ}
+use mathlib.Core.Bool.{Bool, true}
 use mathlib.Core.Option.{some}
-use Prim.Native.Nat.{ℕ, suc, _≤_, _<_}
+use Prim.Native.Nat.{ℕ, suc, _+_, _≤_, _<_}
 use lib.ListN.{length, take, getElem?}
 use Rattle.json.specs.Grammar.{Tree}
 use Rattle.query.specs.Steps.{Step}
@@ -36,3 +36,12 @@ pub record Peak (t : Tree) (q : List Step) (k : ℕ) : Type 0 where
   pub bound : (n : Node) (j : ℕ) → Frames (root t) q n j → j ≤ k
   pub node : Node
   pub reached : Frames (root t) q node k
+
+-- every step is of this kind
+abbrev pub AllSteps : (deep : Bool) → List Step → Type 0
+AllSteps d q = (s : Step) → List·Memᴰ s q → s .deep ≡ d
+
+-- the peak of a query of deep steps only: at most the steps less one, or 0 for no step
+pub record DeepPeak (q : List Step) (k : ℕ) : Type 0 where
+  pub steps : 0 < length q → k + 1 ≤ length q
+  pub bare : length q ≡ 0 → k ≡ 0

@@ -3,29 +3,29 @@
 use mathlib.Core.Path.{_≡_, refl, sym, ap, subst, _∙_}
 use mathlib.Core.Logic.{_↔_, _⊎_, inl, inr, ⊎-map}
 use mathlib.Core.List.{List, [], _∷_}
-use mathlib.Core.Bool.{Bool, true, false, _&&_, _||_, Bool·beq, false≢true}
+use mathlib.Core.Bool.{Bool, true, false, _&&_, _||_, Bool·beq, false≢true, and-eq-true-iff}
 use mathlib.Core.Option.{Option, some, none}
-use Prim.Native.Nat.{ℕ, zero, suc, _+_, _≤_, _<_}
+use Prim.Native.Nat.{ℕ, zero, suc, _≤_, _<_}
 use native.Mathlib.Omega.{arith}
 use borrow.Author.Tests.{ltb-true, ltb-false, lt-ltb}
 use lib.Dec.{ltb}
 use lib.ListN.{length, take, getElem?}
+use Rattle.bits.specs.Truth.{or-is, beq-is, same-truth}
 use Rattle.json.specs.Grammar.{Tree}
-use Rattle.query.specs.Steps.{Step}
+use Rattle.query.specs.Steps.{Step, isDeep}
 use Rattle.select.specs.Nodes.{Label, Node, IsChild, IsNode, root}
 use Rattle.select.specs.Picked.{Hits, PickedFrom, Picked}
 use Rattle.select.specs.Marks.{Mark, SameMarks}
 use Rattle.select.specs.Marks as M
 use Rattle.select.specs.Visits.{Way}
-use Rattle.select.specs.Ways.{picksBack, picks, isDeep, mark, sameMarks, frameIf, frames}
+use Rattle.select.specs.Ways.{picksBack, picks, mark, sameMarks, frameIf, frames}
 use Rattle.select.specs.Reach.{Reach, start, down, below-is}
 use Rattle.select.specs.Order.{way-unique}
-use Rattle.select.specs.Truth.{and-is, or-is, beq-is, same-truth, hits-is}
+use Rattle.select.specs.HitsAre.{hits-is}
 use Rattle.select.specs.PickedIs.{picked-from}
 use Rattle.select.specs.MarksStep.{stepHits, mark-over, picks-step, picks-root}
 
 deep-is : (o : Option Step) → ((s : Step) × (o ≡ some s) × (s .deep ≡ true)) ↔ (isDeep o ≡ true)
-unfolding isDeep
 deep-is none = (λ h. let (s, e, d) = h in let z : _≡_ {A = ℕ} 0 1 = cc in absurd (omega arith), λ e. absurd (false≢true e))
 deep-is (some s) = (λ h. let same : s ≡ h .0 = cc in ap (λ (x : Step). x .deep) same ∙ h .2, λ e. (s, refl, e))
 
@@ -34,13 +34,13 @@ module _ (q : List Step) (i : ℕ) where
   mark-top : (mark q i [] ≡ true) ↔ ((i < length q) × (picks (take i q) [] ≡ true))
   unfolding mark
   mark-top =
-      let both = and-is (ltb i (length q)) (picks (take i q) []) in
+      let both = and-eq-true-iff (ltb i (length q)) (picks (take i q) []) in
       (λ e. (ltb-true i (length q) (both .0 e .0), both .0 e .1), λ h. both .1 (lt-ltb i (length q) (h .0), h .1))
 
-  abbrev pub Kept : Way → Type 0
-  Kept w = (isDeep (getElem? q i) ≡ true) × (mark q i w ≡ true)
+  abbrev pub ByDeepStep : Way → Type 0
+  ByDeepStep w = (isDeep (getElem? q i) ≡ true) × (mark q i w ≡ true)
 
-  pub mark-below : (l : Label) (w : Way) → (mark q i (l ∷ w) ≡ true) ↔ ((i < length q) × ((picks (take i q) (l ∷ w) ≡ true) ⊎ Kept w))
+  pub mark-below : (l : Label) (w : Way) → (mark q i (l ∷ w) ≡ true) ↔ ((i < length q) × ((picks (take i q) (l ∷ w) ≡ true) ⊎ ByDeepStep w))
   unfolding mark
   mark-below l w = (
     λ e.
@@ -50,8 +50,8 @@ module _ (q : List Step) (i : ℕ) where
         both .1 (lt-ltb i (length q) (h .0), either .1 (⊎-map (λ x. x) (kept .1) (h .1))),
   )
     where
-      kept : ((isDeep (getElem? q i) && mark q i w) ≡ true) ↔ Kept w
-      kept = and-is (isDeep (getElem? q i)) (mark q i w)
+      kept : ((isDeep (getElem? q i) && mark q i w) ≡ true) ↔ ByDeepStep w
+      kept = and-eq-true-iff (isDeep (getElem? q i)) (mark q i w)
 
       either :
           ((picks (take i q) (l ∷ w) || (isDeep (getElem? q i) && mark q i w)) ≡ true)
@@ -59,7 +59,7 @@ module _ (q : List Step) (i : ℕ) where
       either = or-is (picks (take i q) (l ∷ w)) (isDeep (getElem? q i) && mark q i w)
 
       both : (mark q i (l ∷ w) ≡ true) ↔ ((ltb i (length q) ≡ true) × ((picks (take i q) (l ∷ w) || (isDeep (getElem? q i) && mark q i w)) ≡ true))
-      both = and-is (ltb i (length q)) (picks (take i q) (l ∷ w) || (isDeep (getElem? q i) && mark q i w))
+      both = and-eq-true-iff (ltb i (length q)) (picks (take i q) (l ∷ w) || (isDeep (getElem? q i) && mark q i w))
 
   mark-picked : (w : Way) → i < length q → picks (take i q) w ≡ true → mark q i w ≡ true
   mark-picked [] h e = mark-top .1 (h, e)
@@ -76,7 +76,7 @@ module _ (q : List Step) (i : ℕ) where
     way-marked start e = let (h, p) = mark-top .0 e in M.picked h (picked-from r (take i q) r .1 ([], start, p))
     way-marked (down {m} {n} {w} l p c) e = let (h, x) = mark-below l w .0 e in go h x (λ e′. way-marked p e′)
       where
-        go : i < length q → (picks (take i q) (l ∷ w) ≡ true) ⊎ Kept w → (mark q i w ≡ true → Mark r q i m) → Mark r q i n
+        go : i < length q → (picks (take i q) (l ∷ w) ≡ true) ⊎ ByDeepStep w → (mark q i w ≡ true → Mark r q i m) → Mark r q i n
         go h (inl x) up = M.picked h (picked-from r (take i q) n .1 (l ∷ w, down l p c, x))
         go h (inr x) up = M.kept l h (deep-is (getElem? q i) .1 (x .0)) (up (x .1)) c
 
@@ -98,7 +98,7 @@ first-marks q (suc n) w w′ = go (first-marks q n w w′)
     last :
         ((Bool·beq (mark q n w) (mark q n w′) && sameMarks q n w w′) ≡ true)
         ↔ ((Bool·beq (mark q n w) (mark q n w′) ≡ true) × (sameMarks q n w w′ ≡ true))
-    last = and-is (Bool·beq (mark q n w) (mark q n w′)) (sameMarks q n w w′)
+    last = and-eq-true-iff (Bool·beq (mark q n w) (mark q n w′)) (sameMarks q n w w′)
 
     pick : (i : ℕ) → i < suc n → mark q n w ≡ mark q n w′ → (i < n → mark q i w ≡ mark q i w′) → (b : Bool) → ltb i n ≡ b → mark q i w ≡ mark q i w′
     pick i h e rest true t = rest (ltb-true i n t)
@@ -142,19 +142,11 @@ same-marks-is r q {w} {w′} {p} {n} x y = (
       (λ m. mark-is q i r y .1 (sym same ∙ mark-is q i r x .0 m), λ m. mark-is q i r x .1 (same ∙ mark-is q i r y .0 m)),
 )
 
--- a container costs no frame where all marks are those of the container around it, and one where they are not
+-- a container costs no frame where all marks are those of the container around it
 module _ (q : List Step) (l : Label) (w : Way) where
   pub frames-same : ((i : ℕ) → mark q i w ≡ mark q i (l ∷ w)) → frames q (l ∷ w) ≡ frames q w
   unfolding frames frameIf
   frames-same h = ap (λ (b : Bool). frameIf b (frames q w)) (all-marks q w (l ∷ w) .1 h)
-
-  pub frames-differ : (((i : ℕ) → mark q i w ≡ mark q i (l ∷ w)) → ⊥) → frames q (l ∷ w) ≡ frames q w + 1
-  unfolding frames frameIf
-  frames-differ h = go (sameMarks q (length q) w (l ∷ w)) refl
-    where
-      go : (b : Bool) → sameMarks q (length q) w (l ∷ w) ≡ b → frameIf b (frames q w) ≡ frames q w + 1
-      go true e = absurd (h (all-marks q w (l ∷ w) .0 e))
-      go false e = refl
 
 -- the root is picked out when there are no steps
 pub root-picked : (t : Tree) (q : List Step) → Picked t q (root t) ↔ (q ≡ [])
@@ -196,12 +188,12 @@ picked-below r q {w} {p} n l x c = (
       let (u, y, e) = picked-from r q n .0 h in
       let f : picks q (l ∷ w) ≡ true = subst (λ (z : Way). picks q z ≡ true) (way-unique y (down l x c) refl .0) e in
       let (k, count) = has-last q l w f in
-      let (g, m) = and-is (stepHits (getElem? q k) l) (mark q k w) .0 (sym (picks-step q k l w count) ∙ f) in
+      let (g, m) = and-eq-true-iff (stepHits (getElem? q k) l) (mark q k w) .0 (sym (picks-step q k l w count) ∙ f) in
       let (s, stands, hit) = step-hits (getElem? q k) l g in
       record { last = k; step = s; count = count; stands = stands; marked = mark-is q k r x .1 m; hits = hit },
   λ b.
       let k = b .last in
-      let f = and-is (stepHits (getElem? q k) l) (mark q k w) .1 (hits-step l (b .stands) (b .hits), mark-is q k r x .0 (b .marked)) in
+      let f = and-eq-true-iff (stepHits (getElem? q k) l) (mark q k w) .1 (hits-step l (b .stands) (b .hits), mark-is q k r x .0 (b .marked)) in
       picked-from r q n .1 (l ∷ w, down l x c, picks-step q k l w (b .count) ∙ f),
 )
 

@@ -3,7 +3,7 @@
 use mathlib.Core.Path.{_≡_, refl, sym, ap, ap₂, _∙_}
 use mathlib.Core.Logic.{_⊎_, inl, inr}
 use mathlib.Core.List.{List, [], _∷_, _++_, reverse, reverse-append, reverse-reverse, cons≢nil}
-use mathlib.Core.Bool.{Bool, true, false, _&&_, _||_, false≢true, or-false, and-true, and-false}
+use mathlib.Core.Bool.{Bool, true, false, _&&_, _||_, false≢true, or-false, and-true, and-false, and-eq-true-iff}
 use mathlib.Core.Option.{Option, some, none}
 use Prim.Native.Nat.{ℕ, zero, suc, _≤_, _<_}
 use native.Mathlib.Omega.{arith}
@@ -11,11 +11,11 @@ use borrow.Author.Tests.{ltb-true, ltb-false, lt-ltb, le-ltb}
 use lib.Dec.{ltb, eqb, eqb·suc-zero}
 use lib.ListN.{length, take, getElem?}
 use lib.Seq.{take-length}
-use Rattle.query.specs.Steps.{Step}
+use Rattle.bits.specs.Truth.{or-is}
+use Rattle.query.specs.Steps.{Step, isDeep}
 use Rattle.select.specs.Nodes.{Label}
 use Rattle.select.specs.Visits.{Way}
-use Rattle.select.specs.Ways.{hits, reached, picksBack, picks, isDeep, mark}
-use Rattle.select.specs.Truth.{and-is, or-is}
+use Rattle.select.specs.Ways.{hits, reached, picksBack, picks, mark}
 
 -- a step, if there is one, hits a label
 unfoldable pub stepHits : Option Step → Label → Bool
@@ -60,7 +60,7 @@ module _ (q : List Step) (i : ℕ) (s : Step) (e : getElem? q i ≡ some s) wher
 
   -- a node has a mark if the steps before it pick out the node or, where the next step is deep, some node above it
   pub mark-reached : (w : Way) → mark q i w ≡ reached (s .deep) (picks (take i q)) w
-  unfolding mark isDeep
+  unfolding mark
   mark-reached [] = ap (λ (b : Bool). b && picks (take i q) []) (lt-ltb i (length q) (step-some q i e)) ∙ reached-root (s .deep) (picks (take i q))
   mark-reached (l ∷ w) =
       ap (λ (b : Bool). b && (picks (take i q) (l ∷ w) || (isDeep (getElem? q i) && mark q i w))) (lt-ltb i (length q) (step-some q i e))
@@ -98,7 +98,7 @@ module _ (q : List Step) where
 
   -- a child has mark 0 if its parent has and the first step is deep
   pub mark-zero : (l : Label) (w : Way) → mark q 0 (l ∷ w) ≡ (isDeep (getElem? q 0) && mark q 0 w)
-  unfolding mark picks picksBack isDeep
+  unfolding mark picks picksBack
   mark-zero l w = go (getElem? q 0) refl
     where
       go : (o : Option Step) → getElem? q 0 ≡ o → mark q 0 (l ∷ w) ≡ (isDeep (getElem? q 0) && mark q 0 w)
@@ -153,11 +153,6 @@ picks-top (s ∷ q) = go (picks (s ∷ q) []) refl ∙ sym (eqb·suc-zero (lengt
     go true e = absurd (cons≢nil (picks-root (s ∷ q) e))
     go false e = e
 
--- without steps no child is picked out
-pub picks-none : (l : Label) (w : Way) → picks [] (l ∷ w) ≡ false
-unfolding picks picksBack
-picks-none l w = refl
-
 -- a mark is less than the number of steps
 pub mark-less : (q : List Step) (i : ℕ) (w : Way) → mark q i w ≡ true → i < length q
 mark-less q i w e = go (ltb i (length q)) refl
@@ -171,16 +166,16 @@ abbrev pub Origin : List Step → ℕ → Way → Type 0
 Origin q i w = ((isDeep (getElem? q i) ≡ true) × (mark q i w ≡ true)) ⊎ ((j : ℕ) × (i ≡ suc j) × (mark q j w ≡ true))
 
 pub mark-origin : (q : List Step) (i : ℕ) (l : Label) (w : Way) → mark q i (l ∷ w) ≡ true → Origin q i w
-mark-origin q zero l w e = inl (and-is (isDeep (getElem? q 0)) (mark q 0 w) .0 (sym (mark-zero q l w) ∙ e))
+mark-origin q zero l w e = inl (and-eq-true-iff (isDeep (getElem? q 0)) (mark q 0 w) .0 (sym (mark-zero q l w) ∙ e))
 mark-origin q (suc i) l w e = go (or-is (stepHits (getElem? q i) l && mark q i w) (isDeep (getElem? q (suc i)) && mark q (suc i) w) .0 alternatives)
   where
     alternatives : ((stepHits (getElem? q i) l && mark q i w) || (isDeep (getElem? q (suc i)) && mark q (suc i) w)) ≡ true
     alternatives =
-        and-is
+        and-eq-true-iff
         (ltb (suc i) (length q))
         ((stepHits (getElem? q i) l && mark q i w) || (isDeep (getElem? q (suc i)) && mark q (suc i) w))
         .0 (sym (mark-suc q i l w) ∙ e) .1
 
     go : ((stepHits (getElem? q i) l && mark q i w) ≡ true) ⊎ ((isDeep (getElem? q (suc i)) && mark q (suc i) w) ≡ true) → Origin q (suc i) w
-    go (inl h) = inr (i, refl, and-is (stepHits (getElem? q i) l) (mark q i w) .0 h .1)
-    go (inr h) = inl (and-is (isDeep (getElem? q (suc i))) (mark q (suc i) w) .0 h)
+    go (inl h) = inr (i, refl, and-eq-true-iff (stepHits (getElem? q i) l) (mark q i w) .0 h .1)
+    go (inr h) = inl (and-eq-true-iff (isDeep (getElem? q (suc i))) (mark q (suc i) w) .0 h)

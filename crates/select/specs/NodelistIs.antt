@@ -2,7 +2,7 @@
 -- A segment gives what its step takes, and steps taken from the first one on are steps taken from the last one back. Assumes nothing.
 use mathlib.Core.Path.{_≡_, refl, sym, ap, subst, _∙_}
 use mathlib.Core.Logic.{_↔_, _⊎_, inl, inr}
-use mathlib.Core.List.{List, [], _∷_, _++_, reverseAux, map, flatMap, List·Memᴰ, List·Memᴰ·head, List·Memᴰ·tail}
+use mathlib.Core.List.{List, [], _∷_, reverseAux, flatMap, List·Memᴰ, List·Memᴰ·head, List·Memᴰ·tail}
 use mathlib.Core.List.{List·Memᴰ·not-nil, List·Memᴰ·cases-cons, List·Memᴰ·eq-of-singleton, Memᴰ·cast, Memᴰ·map, Memᴰ·of-map}
 use mathlib.Core.Bool.{Bool, true, false, false≢true}
 use Rattle.json.specs.Grammar.{Tree}
@@ -11,21 +11,13 @@ use Rattle.select.specs.Nodes.{Label, Node, Child, children, IsChild, Be
 use Rattle.select.specs.Picked.{TakesChild, TakesAs, Takes, PickedBack, Picked}
 use Rattle.select.specs.Visits.{Visit, Way, step, nodeVisits}
 use Rattle.select.specs.Ways.{hits}
-use Rattle.select.specs.Nodelist.{nodeIf, selected, visitedNodes, descendants, concatMap, segment, applied, nodelist}
+use Rattle.select.specs.Nodelist.{nodeIf, selected, descendants, segment, applied, nodelist}
 use Rattle.select.specs.Reach.{visited-is, below-is, mem-flatMap, of-flatMap}
-use Rattle.select.specs.Truth.{hits-is}
-
-concatMap-is : (f : Node → List Node) (ns : List Node) → concatMap f ns ≡ flatMap f ns
-unfolding concatMap flatMap
-concatMap-is f [] = refl
-concatMap-is f (n ∷ ns) = ap (λ (z : List Node). f n ++ z) (concatMap-is f ns)
+use Rattle.select.specs.HitsAre.{hits-is}
 
 -- what is in the results for all nodes is in that for one of them
-mem-concatMap : (f : Node → List Node) (ns : List Node) (n : Node) → List·Memᴰ n (concatMap f ns) ↔ ((m : Node) × List·Memᴰ m ns × List·Memᴰ n (f m))
-mem-concatMap f ns n = (
-  λ h. of-flatMap f ns (subst (List·Memᴰ n) (concatMap-is f ns) h),
-  λ x. subst (List·Memᴰ n) (sym (concatMap-is f ns)) (mem-flatMap f (x .1) (x .2)),
-)
+flatMap-is : (f : Node → List Node) (ns : List Node) (n : Node) → List·Memᴰ n (flatMap f ns) ↔ ((m : Node) × List·Memᴰ m ns × List·Memᴰ n (f m))
+flatMap-is f ns n = (of-flatMap f ns, λ x. mem-flatMap f (x .1) (x .2))
 
 -- a selector gives the children that it hits
 module _ (sel : Selector) (n : Node) where
@@ -77,20 +69,15 @@ module _ (sel : Selector) (n : Node) where
   )
 
 -- the descendants of a node are the nodes below it, itself among them
-visited-nodes : (vs : List (Visit Way)) → visitedNodes vs ≡ map (λ v. v .node) vs
-unfolding visitedNodes
-visited-nodes [] = refl
-visited-nodes (v ∷ vs) = ap (λ (z : List Node). v .node ∷ z) (visited-nodes vs)
-
 descendants-are : (p n : Node) → List·Memᴰ n (descendants p) ↔ Below p n
 unfolding descendants
 descendants-are p n = (
   λ m.
-      let (v, h, e) = Memᴰ·of-map (λ (v : Visit Way). v .node) vs (subst (List·Memᴰ n) (visited-nodes vs) m) in
+      let (v, h, e) = Memᴰ·of-map (λ (v : Visit Way). v .node) vs m in
       subst (Below p) e (below-is p (v .node) .1 (v .state, visited-is p (v .state) (v .node) .0 h)),
   λ b.
       let (w, x) = below-is p n .0 b in
-      subst (List·Memᴰ n) (sym (visited-nodes vs)) (Memᴰ·map (λ (v : Visit Way). v .node) (visited-is p w n .1 x)),
+      Memᴰ·map (λ (v : Visit Way). v .node) (visited-is p w n .1 x),
 )
   where
     vs : List (Visit Way)
@@ -108,7 +95,7 @@ segment-is true sel p n = (
 )
   where
     below : List·Memᴰ n (segment true sel p) ↔ ((m : Node) × List·Memᴰ m (descendants p) × List·Memᴰ n (selected sel (children m)))
-    below = mem-concatMap (λ m. selected sel (children m)) (descendants p) n
+    below = flatMap-is (λ m. selected sel (children m)) (descendants p) n
 
 -- the steps, the first one first, lead from m to n
 abbrev Led : List Step → Node → Node → Type 0
@@ -119,14 +106,14 @@ Led (s ∷ q) m n = (k : Node) × Takes s m k × Led q k n
 applied-is : (q : List Step) (ns : List Node) (n : Node) → List·Memᴰ n (applied q ns) ↔ ((m : Node) × List·Memᴰ m ns × Led q m n)
 unfolding applied
 applied-is [] ns n = (λ h. (n, h, refl), λ x. Memᴰ·cast (x .2) (x .1))
-applied-is (s ∷ q) ns n = go (applied-is q (concatMap (segment (s .deep) (s .selector)) ns) n)
+applied-is (s ∷ q) ns n = go (applied-is q (flatMap (segment (s .deep) (s .selector)) ns) n)
   where
     next : (k : Node)
-        → List·Memᴰ k (concatMap (segment (s .deep) (s .selector)) ns)
+        → List·Memᴰ k (flatMap (segment (s .deep) (s .selector)) ns)
         ↔ ((m : Node) × List·Memᴰ m ns × List·Memᴰ k (segment (s .deep) (s .selector) m))
-    next = mem-concatMap (segment (s .deep) (s .selector)) ns
+    next = flatMap-is (segment (s .deep) (s .selector)) ns
 
-    go : List·Memᴰ n (applied (s ∷ q) ns) ↔ ((k : Node) × List·Memᴰ k (concatMap (segment (s .deep) (s .selector)) ns) × Led q k n) →
+    go : List·Memᴰ n (applied (s ∷ q) ns) ↔ ((k : Node) × List·Memᴰ k (flatMap (segment (s .deep) (s .selector)) ns) × Led q k n) →
         List·Memᴰ n (applied (s ∷ q) ns) ↔ ((m : Node) × List·Memᴰ m ns × Led (s ∷ q) m n)
     go rest = (
       λ h.

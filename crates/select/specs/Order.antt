@@ -2,7 +2,7 @@
 -- The children of a node stand apart, one after the other, behind its first byte and before its end. Assumes nothing.
 use mathlib.Core.Path.{_≡_, refl, sym, ap, subst, _∙_}
 use mathlib.Core.Logic.{_⊎_, inl, inr}
-use mathlib.Core.List.{List, [], _∷_, _++_, map, flatMap, List·Memᴰ, List·Memᴰ·head, List·Memᴰ·tail, List·Memᴰ·not-nil, List·Memᴰ·cases-cons}
+use mathlib.Core.List.{List, [], _∷_, _++_, map, map-append, flatMap, List·Memᴰ, List·Memᴰ·head, List·Memᴰ·tail, List·Memᴰ·not-nil, List·Memᴰ·cases-cons}
 use mathlib.Core.Option.{some}
 use Prim.Native.Nat.{ℕ, zero, suc, _+_, _≤_, _<_}
 use native.Mathlib.Numerals.{add-one}
@@ -16,7 +16,6 @@ use Rattle.select.specs.Nodes.{Label, Node, Child, size, keySize, endOf,
 use Rattle.select.specs.Nodes.{valueChildren, itemsChildren, moreChildren, IsChild, Below, IsNode}
 use Rattle.select.specs.Nodes as N
 use Rattle.select.specs.Visits.{Visit, Way, step, nodeVisits, nodes}
-use Rattle.select.specs.VisitsMap.{map-append}
 use Rattle.select.specs.Children.{childVisits, visits-children, node-induction}
 use Rattle.select.specs.Reach.{Reach, visited-is, below-is}
 

@@ -3,7 +3,7 @@
 -- Assumes nothing.
 use mathlib.Core.Path.{_≡_, refl, sym, ap, subst, _∙_}
 use mathlib.Core.Logic.{_⊎_, inl, inr}
-use mathlib.Core.List.{List, [], _∷_, List·Memᴰ, List·Memᴰ·head, List·Memᴰ·tail}
+use mathlib.Core.List.{List, [], _∷_, List·Memᴰ·head, List·Memᴰ·tail}
 use mathlib.Core.Bool.{Bool, true, false, _&&_, Bool·beq, false≢true}
 use Prim.Native.Nat.{ℕ, zero, suc, _+_, _-_, _≤_, _<_, max}
 use native.Mathlib.Omega.{arith}
@@ -11,11 +11,11 @@ use borrow.Author.Tests.{ltb-true, ltb-false}
 use lib.Dec.{ltb}
 use lib.ListN.{length, getElem?}
 use Rattle.json.specs.Grammar.{Tree}
-use Rattle.query.specs.Steps.{Step}
+use Rattle.query.specs.Steps.{Step, isDeep}
 use Rattle.select.specs.Nodes.{Label}
-use Rattle.select.specs.Marks.{Peak}
+use Rattle.select.specs.Marks.{Peak, AllSteps, DeepPeak}
 use Rattle.select.specs.Visits.{Way, nodes}
-use Rattle.select.specs.Ways.{isDeep, mark, sameMarks, frameIf, frames, peak}
+use Rattle.select.specs.Ways.{mark, sameMarks, frameIf, frames, peak}
 use Rattle.select.specs.MarksStep.{mark-root-suc, mark-less, Origin, mark-origin}
 use Rattle.select.specs.MarksAre.{mark-below}
 use Rattle.select.specs.PeakIs.{most-bound, peak-is, peak-unique}
@@ -186,20 +186,10 @@ unfolding peak
 peak-bound t q k p h x =
     omega (arith, peak-unique x (peak-is t q), most-bound q (max p (length q - 1)) (nodes t) (λ v m. frames-bound p q h (v .state)))
 
--- every step is of this kind
-abbrev pub AllSteps : (deep : Bool) → List Step → Type 0
-AllSteps d q = (s : Step) → List·Memᴰ s q → s .deep ≡ d
-
 step-kind : (d : Bool) (q : List Step) → AllSteps d q → (i : ℕ) → i < length q → isDeep (getElem? q i) ≡ d
-unfolding isDeep
 step-kind d [] h i k = absurd (omega arith)
 step-kind d (s ∷ q) h zero k = h s (List·Memᴰ·head refl)
 step-kind d (s ∷ q) h (suc i) k = step-kind d q (λ x m. h x (List·Memᴰ·tail m)) i (omega arith)
-
--- the peak of a query of deep steps only: at most the steps less one, or 0 for no step
-pub record DeepPeak (q : List Step) (k : ℕ) : Type 0 where
-  pub steps : 0 < length q → k + 1 ≤ length q
-  pub bare : length q ≡ 0 → k ≡ 0
 
 pub deep-only : (t : Tree) (q : List Step) (k : ℕ) → AllSteps true q → Peak t q k → DeepPeak q k
 deep-only t q k h x =
@@ -212,6 +202,3 @@ pub plain-only : (t : Tree) (q : List Step) (k : ℕ) → AllSteps false q → P
 plain-only t q k h x =
     let kinds : PlainThenDeep (length q) q = record { plain = step-kind false q h; deep = λ i l m. absurd (omega arith) } in
     omega (arith, peak-bound t q k (length q) kinds x)
-
-pub deep-peak : (t : Tree) (q : List Step) → AllSteps true q → DeepPeak q (peak t q)
-deep-peak t q h = deep-only t q (peak t q) h (peak-is t q)

@@ -3,8 +3,9 @@
 use mathlib.Core.Path.{_≡_, refl, sym, subst, _∙_}
 use mathlib.Core.Logic.{_↔_, _⊎_, inl, inr}
 use mathlib.Core.List.{List, [], _∷_, reverse}
-use mathlib.Core.Bool.{Bool, true, false, _&&_, false≢true}
+use mathlib.Core.Bool.{Bool, true, false, _&&_, false≢true, and-eq-true-iff}
 use Rattle.json.specs.Grammar.{Tree}
+use Rattle.bits.specs.Truth.{or-is}
 use Rattle.query.specs.Steps.{Selector, Step}
 use Rattle.select.specs.Nodes.{Node, Below, root}
 use Rattle.select.specs.Nodes as N
@@ -12,7 +13,7 @@ use Rattle.select.specs.Picked.{TakesAs, PickedBack, PickedFrom, Picked}
 use Rattle.select.specs.Visits.{Way}
 use Rattle.select.specs.Ways.{hits, reached, picksBack, picks}
 use Rattle.select.specs.Reach.{Reach, start, down}
-use Rattle.select.specs.Truth.{and-is, or-is, hits-is}
+use Rattle.select.specs.HitsAre.{hits-is}
 
 -- the test of one step more
 unfoldable pub takes : (deep : Bool) → Selector → (Way → Bool) → Way → Bool
@@ -58,20 +59,20 @@ module _ (r : Node) (f : Way → Bool) (P : Node → Type 0) (is : (m : Node) �
   unfolding takes reached
   taken-found false (m, p, t) =
       let (w, q, e) = is m .0 p in
-      (t .label ∷ w, down (t .label) q (t .child), and-is (hits sel (t .label)) (f w) .1 (hits-is sel (t .label) .0 (t .hits), e))
+      (t .label ∷ w, down (t .label) q (t .child), and-eq-true-iff (hits sel (t .label)) (f w) .1 (hits-is sel (t .label) .0 (t .hits), e))
   taken-found true (m, p, t) =
       let (w, q, e) = reached-below r f (t .below) (is m .0 p) in
       let l = t .takes .label in
-      (l ∷ w, down l q (t .takes .child), and-is (hits sel l) (reached true f w) .1 (hits-is sel l .0 (t .takes .hits), e))
+      (l ∷ w, down l q (t .takes .child), and-eq-true-iff (hits sel l) (reached true f w) .1 (hits-is sel l .0 (t .takes .hits), e))
 
   found-taken : (d : Bool) {w : Way} {n : Node} → Reach r w n → takes d sel f w ≡ true → Taken d n
   unfolding takes reached
   found-taken d start e = absurd (false≢true e)
   found-taken false (down {m} {n} {w} l p c) e =
-      let h = and-is (hits sel l) (f w) .0 e in
+      let h = and-eq-true-iff (hits sel l) (f w) .0 e in
       (m, is m .1 (w, p, h .1), record { label = l; child = c; hits = hits-is sel l .1 (h .0) })
   found-taken true (down {m} {n} {w} l p c) e =
-      let h = and-is (hits sel l) (reached true f w) .0 e in
+      let h = and-eq-true-iff (hits sel l) (reached true f w) .0 e in
       let (k, x, b) = found-above r f p (h .1) in
       (k, is k .1 x, record { from = m; below = b; takes = record { label = l; child = c; hits = hits-is sel l .1 (h .0) } })
 

@@ -3,12 +3,11 @@
 use mathlib.Core.Path.{_≡_, refl, sym, ap, subst}
 use mathlib.Core.Logic.{_↔_, _⊎_, inl, inr}
 use mathlib.Core.List.{List, [], _∷_, flatMap, List·Memᴰ, List·Memᴰ·head, List·Memᴰ·tail, List·Memᴰ·not-nil, List·Memᴰ·cases-cons}
-use mathlib.Core.List.{List·Memᴰ·append-cases, Memᴰ·cast, Memᴰ·append-left, Memᴰ·append-right, Memᴰ·map, Memᴰ·of-map}
+use mathlib.Core.List.{List·Memᴰ·append-cases, Memᴰ·cast, Memᴰ·append-left, Memᴰ·append-right}
 use Rattle.json.specs.Grammar.{Tree}
 use Rattle.select.specs.Nodes.{Label, Node, children, IsChild, Below, root}
 use Rattle.select.specs.Nodes as N
 use Rattle.select.specs.Visits.{Visit, Way, step, nodeVisits, nodes}
-use Rattle.select.specs.VisitsMap.{over, reach, nodeVisits-are}
 use Rattle.select.specs.Children.{childVisits, visits-children, node-induction}
 
 -- the labels w, the last one first, lead from r, at the way b, to n
@@ -118,21 +117,3 @@ visited-is r w n = (visit-reach r [] (at w n), reach-visit)
 pub nodes-are : (t : Tree) (w : Way) (n : Node) → List·Memᴰ (record { state = w; node = n }) (nodes t) ↔ Reach (root t) w n
 unfolding nodes
 nodes-are t = visited-is (root t)
-
--- the visits of any walk are the nodes that are reached, with the states that their ways lead to
-pub visited-with : {S : Type 0} (next : S → Label → S) (r : Node) (s : S) (x : Visit S) →
-    List·Memᴰ x (nodeVisits next r s) ↔ ((w : Way) × Reach r w (x .node) × (x .state ≡ reach next s w))
-visited-with {S} next r s x = (
-  λ m.
-      let (y, p, q) = Memᴰ·of-map (over (reach next s)) (nodeVisits step r []) (subst (List·Memᴰ x) (nodeVisits-are next r s) m) in
-      (y .state, subst (λ z. Reach r (y .state) z) (ap node q) (visited-is r (y .state) (y .node) .0 p), sym (ap state q)),
-  λ h.
-      subst (List·Memᴰ x) (sym (nodeVisits-are next r s))
-      (Memᴰ·cast (λ i. record { state = h .2 i; node = x .node }) (Memᴰ·map (over (reach next s)) (visited-is r (h .0) (x .node) .1 (h .1)))),
-)
-  where
-    node : Visit S → Node
-    node y = y .node
-
-    state : Visit S → S
-    state y = y .state

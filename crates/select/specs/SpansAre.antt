@@ -75,7 +75,7 @@ module _ (q : List Step) where
       go false rest = rises-lower a (suc (v .node .first)) e (firstBytes (pickedSpans q vs)) (omega (arith, r .0)) rest
 
 -- document 01, "The part of RFC 9535" and its departures: the pairs listed for a record and a query
-pub record Listed (t : Tree) (q : List Step) : Type 0 where
+pub record EachPickedOnce (t : Tree) (q : List Step) : Type 0 where
   -- every node that is picked out has its pair in the list
   pub each : (n : Node) → Picked t q n → List·Memᴰ (spanOf n) (spans t q)
   -- and no other
@@ -102,9 +102,9 @@ spans-are t q x = (
       chosen-span q x (nodes t) (record { state = w; node = n }, nodes-are t w n .1 r, e, p),
 )
 
-pub listed : (t : Tree) (q : List Step) → Listed t q
+pub each-picked-once : (t : Tree) (q : List Step) → EachPickedOnce t q
 unfolding spanOf
-listed t q = record {
+each-picked-once t q = record {
   each = λ n h. spans-are t q (spanOf n) .1 (n, h, refl);
   only = λ x. spans-are t q x .0;
   one = λ n n′ h h′ e. way-unique (picked-is t q n .0 h .1) (picked-is t q n′ .0 h′ .1) (ap (λ x. x .first) e) .1;

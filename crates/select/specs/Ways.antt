@@ -1,12 +1,11 @@
 -- Picked out, marks and frames as tests on the way to a node, so that they compute. Each is proved to be what Picked.antt and Marks.antt say.
 use mathlib.Core.List.{List, [], _∷_, reverse}
 use mathlib.Core.Bool.{Bool, true, false, _&&_, _||_, Bool·beq}
-use mathlib.Core.Option.{Option, some, none}
 use Prim.Native.Nat.{ℕ, zero, suc, _+_, max}
 use lib.Dec.{eqb, ltb}
 use lib.ListN.{length, take, getElem?}
 use Rattle.json.specs.Grammar.{Value, literal, number, string, container, Tree}
-use Rattle.query.specs.Steps.{Selector, name, every, Step}
+use Rattle.query.specs.Steps.{Selector, name, every, Step, isDeep}
 use Rattle.select.specs.Nodes.{Label, member, element, Node, endOf}
 use Rattle.select.specs.Visits.{Visit, Way, nodes}
 
@@ -41,13 +40,9 @@ unfoldable pub picks : List Step → Way → Bool
 unfolding picksBack
 picks q w = picksBack (reverse q) w
 
-unfoldable pub isDeep : Option Step → Bool
-isDeep none = false
-isDeep (some s) = s .deep
-
 -- mark i of the node at this way, of a query's n marks
 unfoldable pub mark : List Step → ℕ → Way → Bool
-unfolding picks isDeep
+unfolding picks
 mark q i [] = ltb i (length q) && picks (take i q) []
 mark q i (l ∷ w) = ltb i (length q) && (picks (take i q) (l ∷ w) || (isDeep (getElem? q i) && mark q i w))
 

@@ -3,7 +3,8 @@ use mathlib.Core.Path.{_≡_, refl}
 use mathlib.Core.Bool.{false, xor}
 use mathlib.Core.List.{[], _∷_}
 use Rattle.bits.specs.Bits.{number, digit}
-use Rattle.blocks.specs.Words.{byteAt, isBackslash, oddBefore, realQuote, oddQuotes, inString, blockSize, stringsWord}
+use Rattle.blocks.specs.Words.{oddBefore, realQuote, oddQuotes, inString, blockSize, stringsWord}
+use Rattle.classifier.specs.Classes.{byteAt, isBackslash}
 use Rattle.json.specs.Grammar as G
 use Rattle.json.specs.Grammar.{Tree, text}
 use Rattle.strings.specs.Strings.{strings}

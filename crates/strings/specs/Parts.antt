@@ -1,42 +1,34 @@
 -- What the sorter's facts and words are over the parts of a text that have no brackets: bytes that it passes over, and strings.
 -- A string is pieces between two quotes; no piece has a real quote. Assumes nothing.
 use mathlib.Core.Path.{_≡_, refl, sym, ap, subst, _∙_}
-use mathlib.Core.Bool.{Bool, true, false, not, _&&_, _||_, and-false, false≢true}
+use mathlib.Core.Bool.{Bool, true, false, not, _&&_, _||_, and-false, and-eq-true-iff, false≢true}
 use mathlib.Core.List.{List, [], _∷_, _++_, List·Memᴰ·head, List·Memᴰ·not-nil}
 use mathlib.Core.List.{List·Memᴰ·append-cases, List·Memᴰ·eq-of-singleton, Memᴰ·append-left, Memᴰ·append-right}
 use mathlib.Core.Logic.{_⊎_, inl, inr, ⊎-elim}
 use Prim.Native.Nat.{ℕ, suc, _+_, _-_, _<_, _≤_}
 use native.Mathlib.Nat.{add-zero}
-use native.Mathlib.Numerals.{add-one}
 use native.Mathlib.Omega.{arith}
 use lib.Dec.{eqb}
-use lib.ListN.{length, getD, drop, length-drop}
-use lib.Seq.{drop-drop, drop-append-seam, getD-drop}
+use lib.ListN.{length, drop}
 use borrow.Author.Tests.{eqb-false, not-true}
 use Rattle.bits.specs.Laws.{lt-or-ge}
-use Rattle.blocks.specs.Words.{byteAt, oddQuotes, inString, opensAt, closesAt}
+use Rattle.bits.specs.Truth.{neither}
+use Rattle.blocks.specs.Words.{oddQuotes, inString, opensAt, closesAt}
+use Rattle.classifier.specs.Classes.{byteAt}
 use Rattle.blocks.specs.Laws.{Carried, carry-plain, carry-backslash, carry-escaped, carry-quote, carried-string}
 use Rattle.json.specs.Grammar.{Char, putChars, putString}
 use Rattle.json.specs.Append.{chars-split, length-chars}
+use Rattle.scan.specs.Places.{Head, head-of, past}
 use Rattle.scan.specs.Shape.{Piece, plain, escaped, putPieces}
 use Rattle.scan.specs.ShapeLaws.{pieces, chars-are}
 use Rattle.strings.specs.Strings.{Quotes, quotesOf, InOne}
 
 -- ---- bytes that stand at a place
 
-pub record Head (s : List ℕ) (a b : ℕ) (rest : List ℕ) : Type 0 where
-  pub byte : byteAt s a ≡ b
-  pub next : drop (suc a) s ≡ rest
-  pub within : a < length s
-
-pub head : (s : List ℕ) (a b : ℕ) (rest : List ℕ) → drop a s ≡ b ∷ rest → Head s a b rest
+-- the byte that stands first at a place, as the sorter's definitions read it
+pub byte-at : {s : List ℕ} {a b : ℕ} {rest : List ℕ} → Head s a b rest → byteAt s a ≡ b
 unfolding byteAt
-head s a b rest e = record {
-  byte =
-      ap (λ (x : ℕ). getD s x 0) (sym (add-zero a)) ∙ sym (getD-drop a s 0 0) ∙ ap (λ (x : List ℕ). getD x 0 0) e;
-  next = ap (λ (x : ℕ). drop x s) (sym (add-one a)) ∙ sym (drop-drop 1 a s) ∙ ap (λ (x : List ℕ). drop 1 x) e;
-  within = omega (arith, ap length e, length-drop a s);
-}
+byte-at t = t .byte-is
 
 -- ---- a byte that is no quote, no backslash and no bracket
 
@@ -54,14 +46,6 @@ unfolding calm
 allCalm [] = true
 allCalm (b ∷ bs) = calm b && allCalm bs
 
-both-true : (x y : Bool) → (x && y) ≡ true → (x ≡ true) × (y ≡ true)
-both-true true y e = (refl, e)
-both-true false y e = absurd (false≢true e)
-
-neither : (x y : Bool) → (x || y) ≡ false → (x ≡ false) × (y ≡ false)
-neither true y e = absurd (false≢true (sym e))
-neither false y e = (refl, e)
-
 pub calm-is : (b : ℕ) → calm b ≡ true → Calm b
 unfolding calm
 calm-is b h =
@@ -77,7 +61,7 @@ calm-is b h =
 
 -- ---- what is said of a part from place a to place e, where place i of s is place o + i of the record
 
-pub record Marks (inside odd : Bool) (s : List ℕ) (o a e : ℕ) (qs : List Quotes) : Type 0 where
+pub record HasStrings (inside odd : Bool) (s : List ℕ) (o a e : ℕ) (qs : List Quotes) : Type 0 where
   pub onward : a ≤ e
   -- both facts are false after it
   pub after : Carried inside odd s e false false
@@ -87,7 +71,7 @@ pub record Marks (inside odd : Bool) (s : List ℕ) (o a e : ℕ) (qs : List Quo
 
 -- a part without a bracket outside strings
 pub record Flat (inside odd : Bool) (s : List ℕ) (o a e : ℕ) (qs : List Quotes) : Type 0 where
-  pub marks : Marks inside odd s o a e qs
+  pub strings : HasStrings inside odd s o a e qs
   pub no-opening : (i : ℕ) → a ≤ i → i < e → opensAt inside odd s i ≡ false
   pub no-closing : (i : ℕ) → a ≤ i → i < e → closesAt inside odd s i ≡ false
 
@@ -112,8 +96,8 @@ calm-after {inside} {odd} {s} {a} b c = carry-plain inside odd s a false false (
 
 module _ {inside odd : Bool} {s : List ℕ} {o : ℕ} where
   -- one part after another
-  pub marks-then : {a b e : ℕ} {ps qs : List Quotes} → Marks inside odd s o a b ps → Marks inside odd s o b e qs → Marks inside odd s o a e (ps ++ qs)
-  marks-then {a} {b} {e} {ps} {qs} p q = record {
+  pub strings-then : {a b e : ℕ} {ps qs : List Quotes} → HasStrings inside odd s o a b ps → HasStrings inside odd s o b e qs → HasStrings inside odd s o a e (ps ++ qs)
+  strings-then {a} {b} {e} {ps} {qs} p q = record {
     onward = omega (arith, p .onward, q .onward);
     after = q .after;
     sound = λ j h. ⊎-elim
@@ -128,7 +112,7 @@ module _ {inside odd : Bool} {s : List ℕ} {o : ℕ} where
 
   pub flat-then : {a b e : ℕ} {ps qs : List Quotes} → Flat inside odd s o a b ps → Flat inside odd s o b e qs → Flat inside odd s o a e (ps ++ qs)
   flat-then {a} {b} {e} p q = record {
-    marks = marks-then (p .marks) (q .marks);
+    strings = strings-then (p .strings) (q .strings);
     no-opening = λ i h l. ⊎-elim (λ (x : i < b). p .no-opening i h x) (λ (x : b ≤ i). q .no-opening i x l) (lt-or-ge i b);
     no-closing = λ i h l. ⊎-elim (λ (x : i < b). p .no-closing i h x) (λ (x : b ≤ i). q .no-closing i x l) (lt-or-ge i b);
   }
@@ -136,7 +120,7 @@ module _ {inside odd : Bool} {s : List ℕ} {o : ℕ} where
   -- nothing
   pub flat-none : {a : ℕ} → Carried inside odd s a false false → Flat inside odd s o a a []
   flat-none {a} c = record {
-    marks = record {
+    strings = record {
       onward = omega arith;
       after = c;
       sound = λ j h. absurd (none-in h);
@@ -147,8 +131,8 @@ module _ {inside odd : Bool} {s : List ℕ} {o : ℕ} where
   }
 
   -- a byte outside strings after which one is outside too
-  pub marks-one : {a : ℕ} → Carried inside odd s (suc a) false false → Marks inside odd s o a (suc a) []
-  marks-one {a} c = record {
+  pub strings-one : {a : ℕ} → Carried inside odd s (suc a) false false → HasStrings inside odd s o a (suc a) []
+  strings-one {a} c = record {
     onward = omega arith;
     after = c;
     sound = λ j h. absurd (none-in h);
@@ -161,7 +145,7 @@ module _ {inside odd : Bool} {s : List ℕ} {o : ℕ} where
   pub flat-byte : {a : ℕ} → Calm (byteAt s a) → Carried inside odd s a false false → Flat inside odd s o a (suc a) []
   unfolding opensAt closesAt
   flat-byte {a} b c = record {
-    marks = marks-one (calm-after b c);
+    strings = strings-one (calm-after b c);
     no-opening = λ i h l.
         (let z : i ≡ a = omega arith in
         ap (opensAt inside odd s) z ∙ ap (λ (x : Bool). x && not (inString inside odd s a)) (b .no-opening));
@@ -171,11 +155,11 @@ module _ {inside odd : Bool} {s : List ℕ} {o : ℕ} where
   }
 
   -- the same, with the place or the strings named otherwise
-  pub marks-to : {a e f : ℕ} {qs : List Quotes} → e ≡ f → Marks inside odd s o a e qs → Marks inside odd s o a f qs
-  marks-to {a} {e} {f} {qs} z m = subst (λ (x : ℕ). Marks inside odd s o a x qs) z m
+  pub strings-to : {a e f : ℕ} {qs : List Quotes} → e ≡ f → HasStrings inside odd s o a e qs → HasStrings inside odd s o a f qs
+  strings-to {a} {e} {f} {qs} z m = subst (λ (x : ℕ). HasStrings inside odd s o a x qs) z m
 
-  pub marks-in : {a e : ℕ} {ps qs : List Quotes} → ps ≡ qs → Marks inside odd s o a e ps → Marks inside odd s o a e qs
-  marks-in {a} {e} {ps} {qs} z m = subst (λ (x : List Quotes). Marks inside odd s o a e x) z m
+  pub strings-in : {a e : ℕ} {ps qs : List Quotes} → ps ≡ qs → HasStrings inside odd s o a e ps → HasStrings inside odd s o a e qs
+  strings-in {a} {e} {ps} {qs} z m = subst (λ (x : List Quotes). HasStrings inside odd s o a e x) z m
 
   pub flat-to : {a e f : ℕ} {qs : List Quotes} → e ≡ f → Flat inside odd s o a e qs → Flat inside odd s o a f qs
   flat-to {a} {e} {f} {qs} z p = subst (λ (x : ℕ). Flat inside odd s o a x qs) z p
@@ -185,16 +169,16 @@ module _ {inside odd : Bool} {s : List ℕ} {o : ℕ} where
       → Flat inside odd s o a (a + length xs) []
   unfolding allCalm
   flat-bytes [] rest a h e c = flat-to (sym (add-zero a)) (flat-none c)
-  flat-bytes (x ∷ xs) rest a h e c = more-bytes (head s a x (xs ++ rest) e) (both-true (calm x) (allCalm xs) h) c (flat-bytes xs rest (suc a))
+  flat-bytes (x ∷ xs) rest a h e c = more-bytes (head-of s a x (xs ++ rest) e) (and-eq-true-iff (calm x) (allCalm xs) .0 h) c (flat-bytes xs rest (suc a))
     where
       more-bytes : Head s a x (xs ++ rest) → (calm x ≡ true) × (allCalm xs ≡ true) → Carried inside odd s a false false
           → (allCalm xs ≡ true → drop (suc a) s ≡ xs ++ rest → Carried inside odd s (suc a) false false
           → Flat inside odd s o (suc a) (suc a + length xs) [])
           → Flat inside odd s o a (a + suc (length xs)) []
       more-bytes t h c more =
-          let b : Calm (byteAt s a) = rw (t .byte) (calm-is x (h .0)) in
+          let b : Calm (byteAt s a) = rw (byte-at t) (calm-is x (h .0)) in
           let z : suc a + length xs ≡ a + suc (length xs) = omega arith in
-          flat-to z (flat-then (flat-byte b c) (more (h .1) (t .next) (calm-after b c)))
+          flat-to z (flat-then (flat-byte b c) (more (h .1) (t .rest-is) (calm-after b c)))
 
 -- ---- a string
 
@@ -203,9 +187,6 @@ pub record Held (inside odd : Bool) (s : List ℕ) (p q : ℕ) (escape : Bool) :
   pub onward : p ≤ q
   pub quoted : (i : ℕ) → p ≤ i → i ≤ q → oddQuotes inside odd s i ≡ true
   pub after : Carried inside odd s q true escape
-
-pub past : (s xs rest : List ℕ) (a : ℕ) → drop a s ≡ xs ++ rest → drop (a + length xs) s ≡ rest
-past s xs rest a e = sym (drop-drop (length xs) a s) ∙ ap (drop (length xs)) e ∙ drop-append-seam xs rest
 
 module _ {inside odd : Bool} {s : List ℕ} where
   held-none : {p : ℕ} {escape : Bool} → Carried inside odd s p true escape → Held inside odd s p p escape
@@ -240,20 +221,20 @@ module _ {inside odd : Bool} {s : List ℕ} where
   held-plain {p} b rest h t c =
       let n = neither (eqb b 0x22) (eqb b 0x5C) h in
       held-one c
-      (carry-plain inside odd s p true false (λ e. eqb-false b 0x22 (n .0) (sym (t .byte) ∙ e))
-      (λ e. eqb-false b 0x5C (n .1) (sym (t .byte) ∙ e)) c)
+      (carry-plain inside odd s p true false (λ e. eqb-false b 0x22 (n .0) (sym (byte-at t) ∙ e))
+      (λ e. eqb-false b 0x5C (n .1) (sym (byte-at t) ∙ e)) c)
 
   held-escaped : {p : ℕ} (b : ℕ) (rest : List ℕ) → Head s p 0x5C (b ∷ rest) → Carried inside odd s p true false
       → Held inside odd s p (suc (suc p)) false
   held-escaped {p} b rest t c =
-      let d = carry-backslash inside odd s p true (t .byte) c in
+      let d = carry-backslash inside odd s p true (byte-at t) c in
       held-then (held-one c d) (held-one d (carry-escaped inside odd s (suc p) true d))
 
   pub held-pieces : (ps : List Piece) (rest : List ℕ) (p : ℕ) → drop p s ≡ putPieces ps rest → Carried inside odd s p true false
       → Held inside odd s p (p + length (putPieces ps [])) false
   unfolding putPieces
   held-pieces [] rest p e c = held-to (sym (add-zero p)) (held-none c)
-  held-pieces (plain b h ∷ ps) rest p e c = one (head s p b (putPieces ps rest) e) (held-pieces ps rest (suc p))
+  held-pieces (plain b h ∷ ps) rest p e c = one (head-of s p b (putPieces ps rest) e) (held-pieces ps rest (suc p))
     where
       one : Head s p b (putPieces ps rest)
           → (drop (suc p) s ≡ putPieces ps rest → Carried inside odd s (suc p) true false
@@ -262,8 +243,8 @@ module _ {inside odd : Bool} {s : List ℕ} where
       one t more =
           let f = held-plain b (putPieces ps rest) h t c in
           let z : suc p + length (putPieces ps []) ≡ p + suc (length (putPieces ps [])) = omega arith in
-          held-to z (held-then f (more (t .next) (f .after)))
-  held-pieces (escaped b ∷ ps) rest p e c = two (head s p 0x5C (b ∷ putPieces ps rest) e) (held-pieces ps rest (suc (suc p)))
+          held-to z (held-then f (more (t .rest-is) (f .after)))
+  held-pieces (escaped b ∷ ps) rest p e c = two (head-of s p 0x5C (b ∷ putPieces ps rest) e) (held-pieces ps rest (suc (suc p)))
     where
       two : Head s p 0x5C (b ∷ putPieces ps rest)
           → (drop (suc (suc p)) s ≡ putPieces ps rest → Carried inside odd s (suc (suc p)) true false
@@ -271,9 +252,9 @@ module _ {inside odd : Bool} {s : List ℕ} where
           → Held inside odd s p (p + suc (suc (length (putPieces ps [])))) false
       two t more =
           let f = held-escaped b (putPieces ps rest) t c in
-          let u = head s (suc p) b (putPieces ps rest) (t .next) in
+          let u = head-of s (suc p) b (putPieces ps rest) (t .rest-is) in
           let z : suc (suc p) + length (putPieces ps []) ≡ p + suc (suc (length (putPieces ps []))) = omega arith in
-          held-to z (held-then f (more (u .next) (f .after)))
+          held-to z (held-then f (more (u .rest-is) (f .after)))
 
 module _ {inside odd : Bool} {s : List ℕ} (o : ℕ) {a q : ℕ} (w : Quotes) (first : w .first ≡ o + a) (last : w .last ≡ o + q)
     (opening : byteAt s a ≡ 0x22) (closing : byteAt s q ≡ 0x22) (h : Held inside odd s (suc a) q false) where
@@ -292,8 +273,8 @@ module _ {inside odd : Bool} {s : List ℕ} (o : ℕ) {a q : ℕ} (w : Quotes) (
       let e : m .quotes ≡ w = List·Memᴰ·eq-of-singleton (m .among) in
       (omega (arith, m .from, ap (λ (x : Quotes). x .first) e), omega (arith, m .before, ap (λ (x : Quotes). x .last) e))
 
-  quoted-marks : Marks inside odd s o a (suc q) (w ∷ [])
-  quoted-marks = record {
+  quoted-strings : HasStrings inside odd s o a (suc q) (w ∷ [])
+  quoted-strings = record {
     onward = omega (arith, h .onward);
     after = closed;
     sound = λ j m.
@@ -309,7 +290,7 @@ module _ {inside odd : Bool} {s : List ℕ} (o : ℕ) {a q : ℕ} (w : Quotes) (
   pub flat-quoted : Flat inside odd s o a (suc q) (w ∷ [])
   unfolding opensAt closesAt
   flat-quoted = record {
-    marks = quoted-marks;
+    strings = quoted-strings;
     no-opening = λ i l r. no-bracket 0x5B 0x7B refl i l r;
     no-closing = λ i l r. no-bracket 0x5D 0x7D refl i l r;
   }
@@ -331,10 +312,10 @@ pub flat-string : {inside odd : Bool} {s : List ℕ} (o : ℕ) {p : ℕ} (cs : L
     → Carried inside odd s a false false → Flat inside odd s o a (a + length (putString cs [])) (quotesOf cs p ∷ [])
 unfolding putString quotesOf
 flat-string {inside} {odd} {s} o {p} cs rest a z e c =
-    let t = head s a 0x22 (putChars cs (0x22 ∷ rest)) e in
+    let t = head-of s a 0x22 (putChars cs (0x22 ∷ rest)) e in
     let q : ℕ = suc a + length (putChars cs []) in
     let f : Held inside odd s (suc a) (suc a + length (putPieces (pieces cs) [])) false =
-    held-pieces (pieces cs) (0x22 ∷ rest) (suc a) (t .next ∙ chars-are cs (0x22 ∷ rest)) (carry-quote inside odd s a false (t .byte) c) in
+    held-pieces (pieces cs) (0x22 ∷ rest) (suc a) (t .rest-is ∙ chars-are cs (0x22 ∷ rest)) (carry-quote inside odd s a false (byte-at t) c) in
     let g : Held inside odd s (suc a) q false = held-to (ap (λ (x : List ℕ). suc a + length x) (sym (chars-are cs []))) f in
-    let u = head s q 0x22 rest (past s (putChars cs []) (0x22 ∷ rest) (suc a) (t .next ∙ chars-split cs (0x22 ∷ rest))) in
-    flat-to (omega (arith, length-chars cs (0x22 ∷ []))) (flat-quoted o (quotesOf cs p) z (omega arith) (t .byte) (u .byte) g)
+    let u = head-of s q 0x22 rest (past s (suc a) (putChars cs []) (0x22 ∷ rest) (t .rest-is ∙ chars-split cs (0x22 ∷ rest))) in
+    flat-to (omega (arith, length-chars cs (0x22 ∷ []))) (flat-quoted o (quotesOf cs p) z (omega arith) (byte-at t) (byte-at u) g)

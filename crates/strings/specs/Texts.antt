@@ -6,7 +6,7 @@ use Prim.Native.Nat.{ℕ, suc, _+_}
 use native.Mathlib.Omega.{arith}
 use native.Mathlib.Numerals.{add-one}
 use lib.ListN.{length, drop}
-use Rattle.blocks.specs.Words.{byteAt}
+use Rattle.classifier.specs.Classes.{byteAt}
 use Rattle.blocks.specs.Laws.{Carried, carry-plain}
 use Rattle.encoding.specs.Bytes.{Blanks, putBlanks}
 use Rattle.json.specs.Grammar as G
@@ -15,12 +15,13 @@ use Rattle.json.specs.Grammar.{putKey, putValue, putItems, putMore, Char, Value
 use Rattle.encoding.specs.BytesLaws.{blanks-split, length-blanks}
 use Rattle.json.specs.Append.{string-split, value-split, length-key, length-value, length-string}
 use Rattle.select.specs.Nodes.{size, keySize}
+use Rattle.scan.specs.Places.{head-of, past}
 use Rattle.strings.specs.Strings.{Quotes, quotesOf, keyStrings}
-use Rattle.strings.specs.Parts.{head, calm, calm-is, allCalm, past, Flat, flat-then, flat-byte, flat-bytes, flat-string}
+use Rattle.strings.specs.Parts.{byte-at, calm, calm-is, allCalm, Flat, flat-then, flat-byte, flat-bytes, flat-string}
 use Rattle.strings.specs.Calm.{calm-blanks, calm-literal, calm-number}
 
 -- a part without brackets, and what stands after it
-pub record Passed (inside odd : Bool) (s : List ℕ) (o a e : ℕ) (qs : List Quotes) (rest : List ℕ) : Type 0 where
+pub record Crossed (inside odd : Bool) (s : List ℕ) (o a e : ℕ) (qs : List Quotes) (rest : List ℕ) : Type 0 where
   pub flat : Flat inside odd s o a e qs
   pub here : drop e s ≡ rest
 
@@ -36,74 +37,74 @@ name-size key a =
     )
 
 module _ {inside odd : Bool} {s : List ℕ} {o : ℕ} where
-  pub passed-then : {a b e : ℕ} {ps qs : List Quotes} {xs rest : List ℕ} → Passed inside odd s o a b ps xs
-      → (drop b s ≡ xs → Carried inside odd s b false false → Passed inside odd s o b e qs rest) → Passed inside odd s o a e (ps ++ qs) rest
-  passed-then p f =
-      let q = f (p .here) (p .flat .marks .after) in
+  pub crossed-then : {a b e : ℕ} {ps qs : List Quotes} {xs rest : List ℕ} → Crossed inside odd s o a b ps xs
+      → (drop b s ≡ xs → Carried inside odd s b false false → Crossed inside odd s o b e qs rest) → Crossed inside odd s o a e (ps ++ qs) rest
+  crossed-then p f =
+      let q = f (p .here) (p .flat .strings .after) in
       record { flat = flat-then (p .flat) (q .flat); here = q .here }
 
-  pub passed-to : {a e f : ℕ} {qs : List Quotes} {rest : List ℕ} → e ≡ f → Passed inside odd s o a e qs rest → Passed inside odd s o a f qs rest
-  passed-to {a} {e} {f} {qs} {rest} z p = subst (λ (x : ℕ). Passed inside odd s o a x qs rest) z p
+  pub crossed-to : {a e f : ℕ} {qs : List Quotes} {rest : List ℕ} → e ≡ f → Crossed inside odd s o a e qs rest → Crossed inside odd s o a f qs rest
+  crossed-to {a} {e} {f} {qs} {rest} z p = subst (λ (x : ℕ). Crossed inside odd s o a x qs rest) z p
 
-  passed-bytes : (xs rest : List ℕ) (a : ℕ) → allCalm xs ≡ true → drop a s ≡ xs ++ rest → Carried inside odd s a false false
-      → Passed inside odd s o a (a + length xs) [] rest
-  passed-bytes xs rest a h e c = record { flat = flat-bytes xs rest a h e c; here = past s xs rest a e }
+  crossed-bytes : (xs rest : List ℕ) (a : ℕ) → allCalm xs ≡ true → drop a s ≡ xs ++ rest → Carried inside odd s a false false
+      → Crossed inside odd s o a (a + length xs) [] rest
+  crossed-bytes xs rest a h e c = record { flat = flat-bytes xs rest a h e c; here = past s a xs rest e }
 
-  pub passed-blanks : (w : Blanks) (rest : List ℕ) (a : ℕ) → drop a s ≡ putBlanks w rest → Carried inside odd s a false false
-      → Passed inside odd s o a (a + length w) [] rest
-  passed-blanks w rest a e c =
-      passed-to (omega (arith, length-blanks w [])) (passed-bytes (putBlanks w []) rest a (calm-blanks w) (e ∙ blanks-split w rest) c)
+  pub crossed-blanks : (w : Blanks) (rest : List ℕ) (a : ℕ) → drop a s ≡ putBlanks w rest → Carried inside odd s a false false
+      → Crossed inside odd s o a (a + length w) [] rest
+  crossed-blanks w rest a e c =
+      crossed-to (omega (arith, length-blanks w [])) (crossed-bytes (putBlanks w []) rest a (calm-blanks w) (e ∙ blanks-split w rest) c)
 
-  pub passed-byte : (b : ℕ) (rest : List ℕ) (a : ℕ) → calm b ≡ true → drop a s ≡ b ∷ rest → Carried inside odd s a false false
-      → Passed inside odd s o a (a + 1) [] rest
-  passed-byte b rest a h e c =
-      let t = head s a b rest e in
-      passed-to (sym (add-one a)) (record { flat = flat-byte (calm-is (byteAt s a) (ap calm (t .byte) ∙ h)) c; here = t .next })
+  pub crossed-byte : (b : ℕ) (rest : List ℕ) (a : ℕ) → calm b ≡ true → drop a s ≡ b ∷ rest → Carried inside odd s a false false
+      → Crossed inside odd s o a (a + 1) [] rest
+  crossed-byte b rest a h e c =
+      let t = head-of s a b rest e in
+      crossed-to (sym (add-one a)) (record { flat = flat-byte (calm-is (byteAt s a) (ap calm (byte-at t) ∙ h)) c; here = t .rest-is })
 
   -- a comma with the blanks around it
-  pub passed-comma : (w w′ : Blanks) (rest : List ℕ) (a : ℕ) → drop a s ≡ putBlanks w (0x2C ∷ putBlanks w′ rest) → Carried inside odd s a false false
-      → Passed inside odd s o a (a + length w + 1 + length w′) [] rest
+  pub crossed-comma : (w w′ : Blanks) (rest : List ℕ) (a : ℕ) → drop a s ≡ putBlanks w (0x2C ∷ putBlanks w′ rest) → Carried inside odd s a false false
+      → Crossed inside odd s o a (a + length w + 1 + length w′) [] rest
   unfolding calm
-  passed-comma w w′ rest a e c =
-      passed-then (passed-blanks w (0x2C ∷ putBlanks w′ rest) a e c) (λ e c.
-      passed-then (passed-byte 0x2C (putBlanks w′ rest) (a + length w) refl e c) (λ e c.
-      passed-blanks w′ rest (a + length w + 1) e c))
+  crossed-comma w w′ rest a e c =
+      crossed-then (crossed-blanks w (0x2C ∷ putBlanks w′ rest) a e c) (λ e c.
+      crossed-then (crossed-byte 0x2C (putBlanks w′ rest) (a + length w) refl e c) (λ e c.
+      crossed-blanks w′ rest (a + length w + 1) e c))
 
-  passed-string : {p : ℕ} (cs : List Char) (rest : List ℕ) (a : ℕ) → p ≡ o + a → drop a s ≡ putString cs rest → Carried inside odd s a false false
-      → Passed inside odd s o a (a + length (putString cs [])) (quotesOf cs p ∷ []) rest
-  passed-string cs rest a z e c =
-      record { flat = flat-string o cs rest a z e c; here = past s (putString cs []) rest a (e ∙ string-split cs rest) }
+  crossed-string : {p : ℕ} (cs : List Char) (rest : List ℕ) (a : ℕ) → p ≡ o + a → drop a s ≡ putString cs rest → Carried inside odd s a false false
+      → Crossed inside odd s o a (a + length (putString cs [])) (quotesOf cs p ∷ []) rest
+  crossed-string cs rest a z e c =
+      record { flat = flat-string o cs rest a z e c; here = past s a (putString cs []) rest (e ∙ string-split cs rest) }
 
   -- what stands before an item's value
-  pub passed-key : {p : ℕ} (k : Kind) (key : Key k) (rest : List ℕ) (a : ℕ) → p ≡ o + a → drop a s ≡ putKey k key rest
+  pub crossed-key : {p : ℕ} (k : Kind) (key : Key k) (rest : List ℕ) (a : ℕ) → p ≡ o + a → drop a s ≡ putKey k key rest
       → Carried inside odd s a false false
-      → Passed inside odd s o a (a + keySize k key) (keyStrings k key p) rest
+      → Crossed inside odd s o a (a + keySize k key) (keyStrings k key p) rest
   unfolding putKey keyStrings keySize calm
-  passed-key G.array key rest a z e c = passed-blanks [] rest a e c
-  passed-key G.object key rest a z e c =
+  crossed-key G.array key rest a z e c = crossed-blanks [] rest a e c
+  crossed-key G.object key rest a z e c =
       let b : ℕ = a + length (putString (key .chars) []) in
-      passed-to (name-size key a) (
-      passed-then (passed-string (key .chars) (putBlanks (key .before) (0x3A ∷ putBlanks (key .after) rest)) a z e c) (λ e c.
-      passed-then (passed-blanks (key .before) (0x3A ∷ putBlanks (key .after) rest) b e c) (λ e c.
-      passed-then (passed-byte 0x3A (putBlanks (key .after) rest) (b + length (key .before)) refl e c) (λ e c.
-      passed-blanks (key .after) rest (b + length (key .before) + 1) e c))))
+      crossed-to (name-size key a) (
+      crossed-then (crossed-string (key .chars) (putBlanks (key .before) (0x3A ∷ putBlanks (key .after) rest)) a z e c) (λ e c.
+      crossed-then (crossed-blanks (key .before) (0x3A ∷ putBlanks (key .after) rest) b e c) (λ e c.
+      crossed-then (crossed-byte 0x3A (putBlanks (key .after) rest) (b + length (key .before)) refl e c) (λ e c.
+      crossed-blanks (key .after) rest (b + length (key .before) + 1) e c))))
 
   -- values that are no containers
-  pub passed-literal : (l : Literal) (rest : List ℕ) (a : ℕ) → drop a s ≡ putValue (G.literal l) rest → Carried inside odd s a false false
-      → Passed inside odd s o a (a + size (G.literal l)) [] rest
+  pub crossed-literal : (l : Literal) (rest : List ℕ) (a : ℕ) → drop a s ≡ putValue (G.literal l) rest → Carried inside odd s a false false
+      → Crossed inside odd s o a (a + size (G.literal l)) [] rest
   unfolding size putValue
-  passed-literal l rest a e c = passed-bytes (putLiteral l []) rest a (calm-literal l) (e ∙ value-split (G.literal l) rest) c
+  crossed-literal l rest a e c = crossed-bytes (putLiteral l []) rest a (calm-literal l) (e ∙ value-split (G.literal l) rest) c
 
-  pub passed-number : (g : Minus) (n : Int) (f : Frac) (x : Exp) (rest : List ℕ) (a : ℕ) → drop a s ≡ putValue (G.number g n f x) rest
-      → Carried inside odd s a false false → Passed inside odd s o a (a + size (G.number g n f x)) [] rest
+  pub crossed-number : (g : Minus) (n : Int) (f : Frac) (x : Exp) (rest : List ℕ) (a : ℕ) → drop a s ≡ putValue (G.number g n f x) rest
+      → Carried inside odd s a false false → Crossed inside odd s o a (a + size (G.number g n f x)) [] rest
   unfolding size putValue
-  passed-number g n f x rest a e c =
-      passed-bytes (putValue (G.number g n f x) []) rest a (calm-number g n f x) (e ∙ value-split (G.number g n f x) rest) c
+  crossed-number g n f x rest a e c =
+      crossed-bytes (putValue (G.number g n f x) []) rest a (calm-number g n f x) (e ∙ value-split (G.number g n f x) rest) c
 
-  pub passed-quoted : {p : ℕ} (cs : List Char) (rest : List ℕ) (a : ℕ) → p ≡ o + a → drop a s ≡ putValue (G.string cs) rest
-      → Carried inside odd s a false false → Passed inside odd s o a (a + size (G.string cs)) (quotesOf cs p ∷ []) rest
+  pub crossed-quoted : {p : ℕ} (cs : List Char) (rest : List ℕ) (a : ℕ) → p ≡ o + a → drop a s ≡ putValue (G.string cs) rest
+      → Carried inside odd s a false false → Crossed inside odd s o a (a + size (G.string cs)) (quotesOf cs p ∷ []) rest
   unfolding size putValue
-  passed-quoted cs rest a z e c = passed-string cs rest a z e c
+  crossed-quoted cs rest a z e c = crossed-string cs rest a z e c
 
 -- ---- brackets
 

@@ -1,6 +1,6 @@
 -- Which bytes are of which kind, both ways.
 use mathlib.Core.Path.{_≡_, refl, sym, ap, _∙_}
-use mathlib.Core.Bool.{Bool, true, false}
+use mathlib.Core.Bool.{Bool, true, false, true≢false}
 use mathlib.Core.Logic.{_⊎_, inl, inr}
 use Prim.Native.Nat.{ℕ, _≤_, _<_}
 use native.Mathlib.Omega.{arith}
@@ -60,22 +60,19 @@ plain-or-not b = from (leb 0x20 b) refl (leb b 0x7F) refl (eqb b 0x22) refl (eqb
     from true e true f false g false h =
         inl (ends (leb-true 0x20 b e) (leb-true b 0x7F f) (eqb-false b 0x22 g) (eqb-false b 0x5C h) (leb b 0x21) refl (leb b 0x5B) refl)
 
-never : {A : Type 0} → true ≡ false → A
-never e = let z : _≡_ {A = ℕ} 0 1 = cc in absurd (omega arith)
-
 module _ {b : ℕ} where
   pub is-plain : plain b ≡ true → Plain b
   is-plain e = go (plain-or-not b)
     where
       go : Plain b ⊎ NotPlain b → Plain b
       go (inl p) = p
-      go (inr n) = never (sym e ∙ plain-fails n)
+      go (inr n) = absurd (true≢false (sym e ∙ plain-fails n))
 
   pub not-plain : plain b ≡ false → NotPlain b
   not-plain e = go (plain-or-not b)
     where
       go : Plain b ⊎ NotPlain b → NotPlain b
-      go (inl p) = never (sym (plain-holds p) ∙ e)
+      go (inl p) = absurd (true≢false (sym (plain-holds p) ∙ e))
       go (inr n) = n
 
   pub blank-holds : (w : Blank) → b ≡ blankByte w → blank b ≡ true
@@ -91,7 +88,7 @@ module _ {b : ℕ} where
   is-blank e = Class.blank-class b .0 (eqb-true (classOf b) 7 e)
 
   pub not-blank : blank b ≡ false → (w : Blank) → b ≡ blankByte w → ⊥
-  not-blank e w q = never (sym (blank-holds w q) ∙ e)
+  not-blank e w q = true≢false (sym (blank-holds w q) ∙ e)
 
   pub above-blanks : 0x20 < b → (w : Blank) → b ≡ blankByte w → ⊥
   above-blanks h space e = omega arith

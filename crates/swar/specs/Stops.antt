@@ -93,9 +93,6 @@ module _ {kind : ℕ → Bool} {s : List ℕ} {i x w : ℕ} (small : (j : ℕ) �
               bit-ext 64 w 0 (rw (found .2) (word-lt 8 (found .0) (found .1))) (omega arith)
               (λ j r. d .low .none-below j (omega arith) ∙ sym (bit-zero j))
 
-      pub stops-inside : n < 8
-      stops-inside = omega (arith, d .is-byte, low-place)
-
       pub stops-at : kind (getD s (i + n) 0) ≡ false
       stops-at = found .3 n stops-before ∙ ne-eqb (found .0 n) 0 marked
         where

@@ -1,5 +1,6 @@
 -- The run before each place, byte by byte. Assumes nothing.
-use Rattle.blocks.specs.Words.{byteAt, isBackslash, oddBefore}
+use Rattle.blocks.specs.Words.{oddBefore}
+use Rattle.classifier.specs.Classes.{byteAt, isBackslash}
 use lib.ListN.{length}
 use Prim.Native.Nat.{ℕ, _+_, _-_, _≤_}
 use native.Mathlib.Omega.{arith}

@@ -1,6 +1,6 @@
 -- The bytes copied so far are those of the part, and zeros stand behind them, as they do behind the part. Assumes nothing.
 use Rattle.blocks.proofs.Fill.{Filled, filled-none, filled-more, padded-all}
-use Rattle.blocks.specs.Words.{byteAt}
+use Rattle.classifier.specs.Classes.{byteAt}
 use lib.ListN.{length}
 use Prim.Native.Nat.{_≤_, _-_}
 use native.Mathlib.Omega.{arith}

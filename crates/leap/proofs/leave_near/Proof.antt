@@ -2,7 +2,7 @@
 use borrow.Author.Needs.{needs}
 use borrow.Author.Tests.{not-false}
 use mathlib.Core.Path.{refl, sym, _∙_}
-use Rattle.leap.proofs.Kept.{near-leads}
+use Rattle.leap.proofs.Kept.{near-after}
 use Rattle.leap.proofs.leave_near.Statement.{statement}
 use Rattle.leap.proofs.leave_near.Tie as tie
 
@@ -10,13 +10,13 @@ element-copy-out-end : tie.Need-element-copy-out-end
 element-copy-out-end c = search needs
 
 returns : tie.Need-returns
-returns c = record { leads = λ s k some. absurd (some refl) }
+returns c = record { is-after = λ s k some. absurd (some refl) }
 
 sub-ahead : tie.Need-sub-ahead
 sub-ahead c = search needs
 
 returns-2 : tie.Need-returns-2
-returns-2 c = record { leads = λ s k some. absurd (some refl) }
+returns-2 c = record { is-after = λ s k some. absurd (some refl) }
 
 sub-near : tie.Need-sub-near
 sub-near c = search needs
@@ -31,7 +31,7 @@ has-requires : tie.Need-has-requires
 has-requires c κs = search needs
 
 returns-3 : tie.Need-returns-3
-returns-3 c = record { leads = λ s k some. absurd (some refl) }
+returns-3 c = record { is-after = λ s k some. absurd (some refl) }
 
 element-copy-out-closing : tie.Need-element-copy-out-closing
 element-copy-out-closing c = search needs
@@ -46,7 +46,7 @@ find-closing-requires : tie.Need-find-closing-requires
 find-closing-requires c κs = search needs
 
 returns-4 : tie.Need-returns-4
-returns-4 c = record { leads = λ s k some. absurd (some refl) }
+returns-4 c = record { is-after = λ s k some. absurd (some refl) }
 
 add-result : tie.Need-add-result
 add-result c = search needs
@@ -59,7 +59,7 @@ returns-5 c =
     let found = c .before in
     let bracket = found .before .before in
     let block = bracket .before .before .before in
-    near-leads _ _ _ _ _ (block .before .if1 .left) (block .if2 .left) refl (sym (bracket .before .has .ensures) ∙ not-false (bracket .before .has .result) (bracket .if3 .left))
+    near-after _ _ _ _ _ (block .before .if1 .left) (block .if2 .left) refl (sym (bracket .before .has .ensures) ∙ not-false (bracket .before .has .result) (bracket .if3 .left))
     (found .find-closing .ensures) (c .if4 .left) _ refl refl refl
 
 pub leave-near-spec : {M : Type 1} → statement M

@@ -1,14 +1,14 @@
 -- The quotes at places that no odd run escapes, their parity, and the last place; or none of them. Assumes nothing.
-use Rattle.blocks.proofs.Marking.{marked-runs, marked-none}
+use Rattle.blocks.proofs.StringsFound.{found-by-runs, found-none}
 use borrow.Author.Needs.{needs}
-use Rattle.blocks.proofs.mark.Statement.{statement}
-use Rattle.blocks.proofs.mark.Tie as tie
+use Rattle.blocks.proofs.find_strings.Statement.{statement}
+use Rattle.blocks.proofs.find_strings.Tie as tie
 
 spread-requires : tie.Need-spread-requires
 spread-requires c κs = search needs
 
 returns : tie.Need-returns
-returns c = marked-none _ _ _ _ _ (c .before .if1 .taken) (c .spread .ensures)
+returns c = found-none _ _ _ _ _ (c .before .if1 .taken) (c .spread .ensures)
 
 escaped-requires : tie.Need-escaped-requires
 escaped-requires c κs = search needs
@@ -27,10 +27,10 @@ returns-2 c =
     let escapes = c .before .before .before .escaped .ensures in
     let parities = c .before .before .prefix-xor .ensures in
     let fills = c .before .spread2 .ensures in
-    marked-runs _ _ _ _ _ _ _ escapes parities fills _ (c .has .ensures)
+    found-by-runs _ _ _ _ _ _ _ escapes parities fills _ (c .has .ensures)
 
-pub mark-spec : {M : Type 1} → statement M
-mark-spec =
+pub find-strings-spec : {M : Type 1} → statement M
+find-strings-spec =
     tie.close
     (tie.spec
     spread-requires

@@ -1,8 +1,8 @@
 -- The xor of a bit and its partner, put in at both places, exchanges the two. Assumes nothing.
-use Rattle.blocks.proofs.DeltaSwap.{swap-law}
+use Rattle.classifier.proofs.DeltaSwap.{swap-law}
 use borrow.Author.Needs.{needs}
-use Rattle.blocks.proofs.swap.Statement.{statement}
-use Rattle.blocks.proofs.swap.Tie as tie
+use Rattle.classifier.proofs.swap.Statement.{statement}
+use Rattle.classifier.proofs.swap.Tie as tie
 
 shr-moved : tie.Need-shr-moved
 shr-moved c = search needs

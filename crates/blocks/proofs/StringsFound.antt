@@ -7,8 +7,8 @@ use native.Mathlib.Omega.{arith}
 use lib.Bits.{bitAnd, bitOr, bitXor}
 use Rattle.bits.specs.Bits.{bit}
 use Rattle.bits.specs.Laws.{bit-and, bit-or, bit-xor, bit-not, bit-zero}
-use Rattle.blocks.specs.Laws.{or-parts}
-use Rattle.blocks.specs.Parts.{oddRun, parity, Marked}
+use Rattle.bits.specs.Truth.{neither}
+use Rattle.blocks.specs.Parts.{oddRun, parity, StringsFound}
 use Rattle.blocks.proofs.Escape.{all-ones}
 use Rattle.blocks.proofs.Parity.{parity-from, parity-none}
 
@@ -20,10 +20,10 @@ module _ (q b : ℕ) (inside odd : Bool) (e prefix fill : ℕ)
   free : (w i : ℕ) → i < 64 → bit i (bitAnd w (bitXor e all-ones)) ≡ (bit i w && not (oddRun odd (λ j. bit j b) i))
   free w i h = bit-and i w (bitXor e all-ones) ∙ ap (λ (x : Bool). bit i w && x) (bit-not 64 i e h ∙ ap not (escapes i h))
 
-  pub marked-runs : (ends : Bool) → ends ≡ bit 63 (bitAnd b (bitXor e all-ones))
-      → Marked q b inside odd (bitAnd q (bitXor e all-ones)) (bitXor prefix fill) ends
+  pub found-by-runs : (ends : Bool) → ends ≡ bit 63 (bitAnd b (bitXor e all-ones))
+      → StringsFound q b inside odd (bitAnd q (bitXor e all-ones)) (bitXor prefix fill) ends
   unfolding oddRun
-  marked-runs ends last = record {
+  found-by-runs ends last = record {
     quotes-at = free q;
     strings-at = λ i h. bit-xor i prefix fill ∙ ap₂ xor (parities i h) (fills i h)
         ∙ parity-from inside (λ j. bit j (bitAnd q (bitXor e all-ones))) (i + 1);
@@ -32,11 +32,11 @@ module _ (q b : ℕ) (inside odd : Bool) (e prefix fill : ℕ)
 
 module _ (q b : ℕ) (inside odd : Bool) (fill : ℕ) (none : bitOr q b ≡ 0) (fills : (i : ℕ) → i < 64 → bit i fill ≡ inside) where
   off : (i : ℕ) → (bit i q ≡ false) × (bit i b ≡ false)
-  off i = or-parts (bit i q) (bit i b) (sym (bit-or i q b) ∙ ap (bit i) none ∙ bit-zero i)
+  off i = neither (bit i q) (bit i b) (sym (bit-or i q b) ∙ ap (bit i) none ∙ bit-zero i)
 
-  pub marked-none : Marked q b inside odd 0 fill false
+  pub found-none : StringsFound q b inside odd 0 fill false
   unfolding oddRun
-  marked-none = record {
+  found-none = record {
     quotes-at = λ i h. bit-zero i ∙ sym (ap (λ (x : Bool). x && not (oddRun odd (λ j. bit j b) i)) (off i .0));
     strings-at = λ i h. fills i h ∙ sym (parity-none inside (λ j. bit j 0) bit-zero (i + 1));
     ends-is = sym (ap (λ (x : Bool). x && not (oddRun odd (λ j. bit j b) 63)) (off 63 .1));

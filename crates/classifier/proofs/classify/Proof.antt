@@ -1,7 +1,7 @@
 -- The packed flags of each class become its word. Assumes nothing.
 use borrow.Author.Needs.{needs}
-use Rattle.blocks.proofs.classify.Statement.{statement}
-use Rattle.blocks.proofs.classify.Tie as tie
+use Rattle.classifier.proofs.classify.Statement.{statement}
+use Rattle.classifier.proofs.classify.Tie as tie
 
 pack-requires : tie.Need-pack-requires
 pack-requires c κs = search needs

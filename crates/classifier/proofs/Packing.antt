@@ -14,9 +14,9 @@ use mir.Val.{boolByte}
 use Rattle.bits.specs.Bits.{on, bit}
 use Rattle.bits.specs.Laws.{lt-or-ge}
 use Rattle.bits.specs.Truth.{truth, sameEverywhere, allBelow, all-at}
-use Rattle.blocks.specs.Words.{byteAt, isBackslash}
-use Rattle.blocks.specs.Parts.{spaced, column, Packed, PackedClasses, isQuote}
-use Rattle.blocks.proofs.Fill.{opening-law, closing-law}
+use Rattle.classifier.specs.Classes.{byteAt, isQuote, isBackslash}
+use Rattle.classifier.specs.Packed.{spaced, column, Packed, PackedClasses}
+use Rattle.classifier.proofs.Braces.{opening-law, closing-law}
 
 -- ---- four flags
 

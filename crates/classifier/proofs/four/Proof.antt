@@ -1,8 +1,8 @@
 -- Each flag stands at its even place, whatever the others are. Assumes nothing.
-use Rattle.blocks.proofs.Packing.{four-law}
+use Rattle.classifier.proofs.Packing.{four-law}
 use borrow.Author.Needs.{needs}
-use Rattle.blocks.proofs.four.Statement.{statement}
-use Rattle.blocks.proofs.four.Tie as tie
+use Rattle.classifier.proofs.four.Statement.{statement}
+use Rattle.classifier.proofs.four.Tie as tie
 
 cast-result : tie.Need-cast-result
 cast-result c = search needs

@@ -10,7 +10,7 @@ use borrow.Author.Tests.{leb-true}
 use Rattle.bits.specs.Bits.{on, bit}
 use Rattle.bits.specs.Laws.{bit-and, bit-xor, bit-shl, bit-shr, shifted-is}
 use Rattle.bits.specs.Truth.{truth, allBelow, all-at, and-left, and-right}
-use Rattle.blocks.specs.Parts.{swapPlace, clash, Swapped}
+use Rattle.classifier.specs.Packed.{swapPlace, clash, Swapped}
 
 abbrev moved : ℕ → ℕ → ℕ → ℕ
 moved k mask x = bitAnd (bitXor x (x / 2 ^ k)) mask

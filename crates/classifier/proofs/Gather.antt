@@ -1,7 +1,7 @@
 -- The flags of a class are packed four to a byte, at its even places. Eight packed bytes loaded as a word, with the next eight one place
 -- further up between them, are rows of eight bits, and the flags are their columns. Assumes nothing.
 use mathlib.Core.Path.{_≡_, ap, ap₂, _∙_}
-use mathlib.Core.Bool.{Bool, false, _&&_, _||_}
+use mathlib.Core.Bool.{Bool, false, _&&_, _||_, or-false}
 use mathlib.Core.List.{List}
 use mathlib.Core.Logic.{⊎-elim}
 use Prim.Native.Nat.{ℕ, _+_, _-_, _*_, _/_, _%_, _^_, _<_, _≤_}
@@ -12,12 +12,8 @@ use borrow.Author.Tests.{le-leb, lt-leb, eq-eqb, ne-eqb}
 use Rattle.bits.specs.Bits.{bit}
 use Rattle.bits.specs.Laws.{lt-or-ge, bit-or, bit-shl, shifted-is}
 use Rattle.bits.specs.Word.{Loaded}
-use Rattle.bits.specs.Truth.{truth}
-use Rattle.blocks.specs.Words.{byteAt}
-use Rattle.blocks.specs.Parts.{column, Packed}
-
-or-off : (a : Bool) → (a || false) ≡ a
-or-off = truth 1 _ _ tt
+use Rattle.classifier.specs.Classes.{byteAt}
+use Rattle.classifier.specs.Packed.{column, Packed}
 
 column-even : (g : ℕ → Bool) (k j i : ℕ) → j % 2 ≡ 0 → 8 * j + k ≡ i → column g k j ≡ g i
 unfolding column
@@ -48,7 +44,7 @@ module _ (m : List ℕ) (at w v : ℕ) (low : Loaded 8 m at w) (high : Loaded 8 
       (λ (l : 1 ≤ n). ap₂ (λ (x y : Bool). x && y) (le-leb 1 n l)
       (high-bit (n - 1) (omega arith) ∙ column-odd g (8 + (n - 1) / 8) ((n - 1) % 8) (omega arith)))
       (lt-or-ge n 1))
-      ∙ or-off (g i)
+      ∙ or-false (g i)
 
   -- an odd row is of the next eight
   odd-row : (n i : ℕ) → n < 64 → n % 2 ≡ 1 → 8 * (n % 8) + n / 8 ≡ i → (bit n w || (leb 1 n && bit (n - 1) v)) ≡ g i

@@ -1,13 +1,13 @@
 -- After i turns each class has its first i packed bytes; a turn writes the next one of each. Assumes nothing.
-use Rattle.blocks.proofs.Packing.{packed-none, packed-more}
-use Rattle.blocks.specs.Words.{byteAt, isBackslash}
-use Rattle.blocks.specs.Parts.{PackedClasses}
+use Rattle.classifier.proofs.Packing.{packed-none, packed-more}
+use Rattle.classifier.specs.Classes.{byteAt, isBackslash}
+use Rattle.classifier.specs.Packed.{PackedClasses}
 use Prim.Native.Nat.{_≤_, _-_}
 use mathlib.Core.Path.{_≡_, refl}
 use native.Mathlib.Omega.{arith}
 use borrow.Author.Needs.{needs}
-use Rattle.blocks.proofs.pack.Statement.{statement}
-use Rattle.blocks.proofs.pack.Tie as tie
+use Rattle.classifier.proofs.pack.Statement.{statement}
+use Rattle.classifier.proofs.pack.Tie as tie
 
 abbrev Inv-loop : tie.InvT-loop
 Inv-loop s m₀ i₀ m i = (i ≤ 16) × PackedClasses s m i

@@ -1,8 +1,8 @@
 -- Three swaps, of single bits, of pairs and of fours, turn rows into columns. Assumes nothing.
-use Rattle.blocks.proofs.DeltaSwap.{turn-law}
+use Rattle.classifier.proofs.DeltaSwap.{turn-law}
 use borrow.Author.Needs.{needs}
-use Rattle.blocks.proofs.transpose.Statement.{statement}
-use Rattle.blocks.proofs.transpose.Tie as tie
+use Rattle.classifier.proofs.transpose.Statement.{statement}
+use Rattle.classifier.proofs.transpose.Tie as tie
 
 swap-requires : tie.Need-swap-requires
 swap-requires c κs = search needs

@@ -1,9 +1,9 @@
 -- The two loads are rows that have the flags as their columns, and the transpose turns them. Assumes nothing.
-use Rattle.blocks.proofs.Gather.{gathered}
+use Rattle.classifier.proofs.Gather.{gathered}
 use mathlib.Core.Path.{_∙_}
 use borrow.Author.Needs.{needs}
-use Rattle.blocks.proofs.word.Statement.{statement}
-use Rattle.blocks.proofs.word.Tie as tie
+use Rattle.classifier.proofs.word.Statement.{statement}
+use Rattle.classifier.proofs.word.Tie as tie
 
 load8-requires : tie.Need-load8-requires
 load8-requires c κs = search needs

@@ -1,0 +1,4 @@
+pub mod DeltaSwap
+pub mod Gather
+pub mod Braces
+pub mod Packing
