@@ -1,7 +1,7 @@
 -- A value that is ahead is passed with its tally, or a container is entered: the laws of what is ahead, with the pile around. Assumes nothing.
 use mathlib.Core.Path.{_≡_, refl, sym, ap, ap₂, subst, _∙_}
 use mathlib.Core.List.{List, [], _∷_}
-use mathlib.Core.Logic.{_⊎_, inl, inr}
+use mathlib.Core.Logic.{inl, inr}
 use mathlib.Core.Bool.{Bool, true, false, false≢true, true≢false}
 use Prim.Native.Nat.{ℕ, zero, suc, _+_, _-_, _≤_, _<_}
 use native.Mathlib.Nat.{le-max-right}
@@ -23,13 +23,13 @@ use Rattle.automaton.specs.State.{next}
 use Rattle.automaton.specs.Tally.{Tally, raiseFrom, raised}
 use Rattle.automaton.specs.TallyIs.{tallied-stopped}
 use Rattle.automaton.specs.Dead.{items-dead}
-use Rattle.automaton.specs.Halves.{begin, waiting, finish}
+use Rattle.automaton.specs.Halves.{beginFrom, begin, waiting, finish}
 use Rattle.pairs.specs.Pairs.{tally, Begins, Raises}
 use Rattle.walk.specs.Ahead.{ItemsAhead}
 use Rattle.walk.specs.AheadLaws.{items-inside, no-items, first-item}
 use Rattle.walk.specs.ValueLaws.{scalar-passed, container-entered}
 use Rattle.jumping.specs.Pile.{Pile, kept, Open, kindAt, Passed, ItemDue, ValueDue, ContainerDue}
-use Rattle.jumping.specs.Turns.{tallyOf, Due, Onward, Lost, PassedTo, EnteredAt, Skipped, PassesContainer}
+use Rattle.jumping.specs.Turns.{tallyOf, Due, Onward, Lost, PassedTo, EnteredAt, Idle, Skipped, PassesContainer}
 use Rattle.jumping.specs.declared.pile.Coming.{Coming}
 use Rattle.jumping.specs.declared.pile.Standing.{Standing}
 use Rattle.jumping.proofs.Frames.{passed-sized, passed-few, passed-kept, level-new}
@@ -68,6 +68,13 @@ lost-farther y = rw (y .is) (omega arith)
 pub passed-farther : {i e w : ℕ} {l l′ : List ℕ} {a r : Standing} → PassedTo l l′ w e a r → i < e → i < r .at
 passed-farther y h = rw (y .is) h
 
+-- no item is ahead then
+pub lost-item : {i : ℕ} {a r : Standing} → Lost i a r → r .item ≡ false
+lost-item y = rw (y .is)
+
+pub passed-item : {e w : ℕ} {l l′ : List ℕ} {a r : Standing} → PassedTo l l′ w e a r → r .item ≡ false
+passed-item y = rw (y .is)
+
 pub onward-entered : {n b c w f : ℕ} {z z′ : Pile} {v : Coming} {a r : Standing} → EnteredAt z z′ b c w f v a r → v .at < c → c ≤ n
     → a .depth < maxDepth → f ≤ maxDepth → Onward n (v .at) r
 onward-entered y g h k e =
@@ -98,6 +105,16 @@ module _ {x : List Step} {s : List ℕ} {whole : Tally} where
       → ItemDue x s whole (kept z (a .frames) (a .depth) (a .marks) w b) c (tallyOf l a) (a .depth + 1) f (v .marks) → Due x s whole z′ l r
   due-entered y p =
       rw (y .is, y .pile-is) (record { root = λ e g. absurd (omega arith); item = λ e g. p; passed = λ e. absurd (true≢false e) })
+
+-- a node that is begun after a stop changes nothing
+pub idle-begun : {p : Bool} {l : List ℕ} {u k i : ℕ} {l′ : List ℕ} {u′ k′ w m : ℕ} → Begins p l u k i l′ u′ k′ w → Idle m k → Idle m k′
+unfolding begin beginFrom
+idle-begun g (inl e) = inl e
+idle-begun {p} {l} {u} {k} {i} {k′ = k′} g (inr n) = inr (go k n (ap (λ (t : Tally). t .stop) (g .begun 0)))
+  where
+    go : (k : ℕ) → (k ≡ 0 → ⊥) → begin p (tally l u 0 k) i .stop ≡ k′ → k′ ≡ 0 → ⊥
+    go zero n e f = n refl
+    go (suc k) n e f = omega arith
 
 -- what begins a value stands in the record
 starts-inside : (s xs : List ℕ) (i : ℕ) → starts xs ≡ true → drop i s ≡ xs → i < length s
@@ -173,7 +190,8 @@ pub container-lost : {s : List ℕ} {z z′ : Pile} {l l′ : List ℕ} {v : Com
     → a .frames ≤ maxDepth
     → ((x : List Step) (whole : Tally) → ContainerDue x s whole z (v .at) (tallyOf l a) w (v .marks) (a .depth) (a .frames) (a .marks) → ⊥)
     → PassesContainer s z z′ l l′ v w a r
-container-lost y h g n = record { onward = onward-lost y (omega arith) (omega arith) g; keeps = λ x whole d. absurd (n x whole d) }
+container-lost y h g n =
+    record { onward = onward-lost y (omega arith) (omega arith) g; passed = λ e. lost-item y; keeps = λ x whole d. absurd (n x whole d) }
 
 module _ {x : List Step} {s : List ℕ} {whole : Tally} {z : Pile} {i : ℕ} {l : List ℕ} {u h k w m′ d f m f′ h′ : ℕ}
     (v : ContainerDue x s whole z i (tally l u h k) w m′ d f m) (g : f′ ≡ frameIf (eqb m m′) f) (r : Raises h f′ k h′) where
@@ -193,7 +211,7 @@ module _ {x : List Step} {s : List ℕ} {whole : Tally} {z : Pile} {i : ℕ} {l 
       subst (λ (t : Tally). t .stop ≡ 0 → v .state .frames ≤ t .peak) raised-is (raised-counted (v .state .frames) (tally l u h k)) e
 
   -- no node below it changes the tally
-  unchanged : (m′ ≡ 0) ⊎ (k ≡ 0 → ⊥) → v .inner ≡ tally l u h′ k
+  unchanged : Idle m′ k → v .inner ≡ tally l u h′ k
   unchanged (inl e) =
       sym (inside .runs) ∙ items-dead x (inside .is) (v .state) (i + 1) (tally l u h′ k) (v .marks-are ∙ e) counted
   unchanged (inr e) = go k refl
@@ -206,7 +224,7 @@ module _ {x : List Step} {s : List ℕ} {whole : Tally} {z : Pile} {i : ℕ} {l 
   pub skipped-due : {e : ℕ} {b : Bool} → Skipped m′ k b → b ≡ true → Leaves s (i + 1) e → Passed x s whole z e (finish w e (tally l u h′ k)) d f m
   skipped-due {e} y c q =
       let a : e ≡ v .end = q .exact _ (inside .is) (v .rest) (inside .here) ∙ sym (inside .ends) in
-      passed-as a (ap₂ (λ (n : ℕ) (t : Tally). finish w n t) a (sym (unchanged (y .dead c)))) (v .after)
+      passed-as a (ap₂ (λ (n : ℕ) (t : Tally). finish w n t) a (sym (unchanged (y .only c)))) (v .after)
 
   module _ {c : ℕ} (blanks : EndsBlanks s (i + 1) c) where
     -- something follows the opening bracket

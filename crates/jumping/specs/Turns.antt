@@ -62,19 +62,26 @@ pub record EnteredAt (z z′ : Pile) (b e w f : ℕ) (v : Coming) (a r : Standin
       r
       ≡ record { at = e; item = true; depth = a .depth + 1; frames = f; marks = v .marks; used = a .used; peak = a .peak; stop = a .stop }
 
--- a container is passed without a look inside only where it has no marks or the list is full
-pub record Skipped (m stop : ℕ) (r : Bool) : Type 0 where
-  pub dead : r ≡ true → (m ≡ 0) ⊎ (stop ≡ 0 → ⊥)
+-- nothing in a container counts any more: it has no marks and is dead (document 01, "Marks, frames, the pile"), or the list is full
+abbrev pub Idle : (marks stop : ℕ) → Type 0
+Idle m stop = (m ≡ 0) ⊎ (stop ≡ 0 → ⊥)
 
--- the value ahead is passed, or it is a container with items and is entered
+-- exactly such a container is passed without a look inside
+pub record Skipped (m stop : ℕ) (r : Bool) : Type 0 where
+  pub only : r ≡ true → Idle m stop
+  pub all : Idle m stop → r ≡ true
+
+-- the value ahead is passed, or it is a container with items and is entered; a dead one is passed at once, and no item of it is ahead then
 pub record PassesValue (s : List ℕ) (z z′ : Pile) (list list′ : List ℕ) (v : Coming) (a r : Standing) : Type 0 where
   pub onward : Onward (length s) (v .at) r
+  pub passed : Idle (v .marks) (a .stop) → r .item ≡ false
   pub keeps : (x : List Step) (whole : Tally) → ValueDue x s whole z (v .at) (tallyOf list a) (v .marks) (v .picked) (a .depth) (a .frames) (a .marks)
       → Due x s whole z′ list′ r
 
 -- the same of a container whose pair w is begun
 pub record PassesContainer (s : List ℕ) (z z′ : Pile) (list list′ : List ℕ) (v : Coming) (w : ℕ) (a r : Standing) : Type 0 where
   pub onward : Onward (length s) (v .at) r
+  pub passed : Idle (v .marks) (a .stop) → r .item ≡ false
   pub keeps : (x : List Step) (whole : Tally) → ContainerDue x s whole z (v .at) (tallyOf list a) w (v .marks) (a .depth) (a .frames) (a .marks)
       → Due x s whole z′ list′ r
 

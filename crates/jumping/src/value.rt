@@ -60,17 +60,17 @@ pub fn pass(list: &mut [u32], wait: usize, end: usize, a: Standing) -> Standing
     }
 }
 
-// Whether a container with these marks is passed without a look inside: it has none, or the list was full.
+// Whether a container with these marks is passed without a look inside: exactly if it has none, or the list was full.
 fn is_dead(marks: u16, stop: usize) -> bool
     ensures { λ r. ⌜ Skipped marks stop r ⌝ }
 {
-    if marks == 0 {
-        return true;
-    }
     if stop != 0 {
         return true;
     }
-    false
+    if marks != 0 {
+        return false;
+    }
+    true
 }
 
 // Enters the container ahead, up to its first item at `first`, and keeps what is needed when it is left.

@@ -1,8 +1,9 @@
 -- Each way out is one law of Values: the container is skipped, empty or entered, and on bytes that no tree explains nothing is promised.
 -- Assumes nothing.
 use mathlib.Core.Path.{sym, _∙_}
+use mathlib.Core.Bool.{true≢false}
 use native.Mathlib.Omega.{arith}
-use Rattle.jumping.proofs.Values.{onward-passed, onward-entered, due-passed, due-entered, has-level, has-frame, framed-fits}
+use Rattle.jumping.proofs.Values.{onward-passed, onward-entered, passed-item, due-passed, due-entered, has-level, has-frame, framed-fits}
 use Rattle.jumping.proofs.Values.{container-lost, skipped-due, more-bytes, empty-due, items-due}
 use borrow.Author.Needs.{needs}
 use Rattle.jumping.proofs.value.container.Statement.{statement}
@@ -63,6 +64,7 @@ returns-3 c =
         onward =
             onward-passed (at-pass .pass .ensures) (omega (arith, at-leave .leave .ensures .0 .onward))
             (at-leave .leave .ensures .0 .within (omega (arith, pre .1 .0 .1))) (pre .1 .1 .0 .0) (pre .1 .1 .0 .1);
+        passed = λ e. passed-item (at-pass .pass .ensures);
         keeps = λ x whole y.
             due-passed (at-pass .pass .ensures)
             (skipped-due y (at-framed .framed .ensures) (at-raise .raise .ensures) (at-is-dead .is-dead .ensures) (at-if3 .if3 .taken)
@@ -125,6 +127,7 @@ returns-5 c =
         onward =
             onward-passed (at-pass2 .pass2 .ensures) (omega (arith, at-skip-blanks .skip-blanks .ensures .onward)) (omega (arith, at-if4 .if4 .left))
             (pre .1 .1 .0 .0) (pre .1 .1 .0 .1);
+        passed = λ e. passed-item (at-pass2 .pass2 .ensures);
         keeps = λ x whole y.
             due-passed (at-pass2 .pass2 .ensures)
             (empty-due y (at-framed .framed .ensures) (at-raise .raise .ensures) (at-skip-blanks .skip-blanks .ensures)
@@ -147,7 +150,8 @@ returns-6 c =
     let at-class = at-if5 .before in
     let at-if4 = at-class .before .before in
     let at-skip-blanks = at-if4 .before in
-    let at-raise = at-skip-blanks .before .before .before in
+    let at-if3 = at-skip-blanks .before in
+    let at-raise = at-if3 .before .before in
     let at-framed = at-raise .before in
     let at-if2 = at-framed .before in
     let pre = at-if2 .before .before .before .before .before .pre in (
@@ -155,6 +159,7 @@ returns-6 c =
         onward =
             onward-entered (c .enter .ensures) (omega (arith, at-skip-blanks .skip-blanks .ensures .onward)) (omega (arith, at-if4 .if4 .left))
             (at-if2 .before .if1 .left) (framed-fits _ (at-framed .framed .ensures) (at-if2 .if2 .left));
+        passed = λ e. absurd (true≢false (sym (at-if3 .before .is-dead .ensures .all e) ∙ at-if3 .if3 .left));
         keeps = λ x whole y.
             due-entered (c .enter .ensures)
             (items-due y (at-framed .framed .ensures) (at-raise .raise .ensures) (at-skip-blanks .skip-blanks .ensures)

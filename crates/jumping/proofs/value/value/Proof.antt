@@ -1,7 +1,7 @@
 -- The node's pair is begun first; then a scalar is passed, and a container is left to its own function. Assumes nothing.
 use mathlib.Core.Path.{sym, _∙_}
 use native.Mathlib.Omega.{arith}
-use Rattle.jumping.proofs.Values.{onward-lost, onward-passed, due-passed, value-inside, scalar-due, container-due}
+use Rattle.jumping.proofs.Values.{onward-lost, onward-passed, lost-item, passed-item, due-passed, idle-begun, value-inside, scalar-due, container-due}
 use borrow.Author.Needs.{needs}
 use Rattle.jumping.proofs.value.value.Statement.{statement}
 use Rattle.jumping.proofs.value.value.Tie as tie
@@ -15,6 +15,7 @@ returns c =
     let pre = at-if1 .before .before .before .pre in (
       record {
         onward = onward-lost (c .lost .ensures) (omega arith) (pre .1 .0 .1) (pre .1 .1 .0 .1);
+        passed = λ e. lost-item (c .lost .ensures);
         keeps = λ x whole y. absurd (omega (arith, value-inside y, at-if1 .if1 .taken));
       },
       pre .1 .1 .1,
@@ -50,6 +51,7 @@ returns-2 c =
         onward =
             onward-passed (at-pass .pass .ensures) (at-scalar-end .scalar-end .ensures .onward) (at-scalar-end .scalar-end .ensures .within)
             (pre .1 .1 .0 .0) (pre .1 .1 .0 .1);
+        passed = λ e. passed-item (at-pass .pass .ensures);
         keeps = λ x whole y.
             due-passed (at-pass .pass .ensures)
             (scalar-due y (at-begin .begin .ensures) (λ e. at-if2 .if2 .taken (at-class .class .ensures ∙ e)) (at-scalar-end .scalar-end .ensures));
@@ -74,6 +76,7 @@ returns-3 c =
     let at-begin = at-class .before .before .before .before in (
       record {
         onward = at-container .container .ensures .0 .onward;
+        passed = λ e. at-container .container .ensures .0 .passed (idle-begun (at-begin .begin .ensures) e);
         keeps = λ x whole y.
             at-container .container .ensures .0 .keeps x whole
             (container-due y (at-begin .begin .ensures) (sym (at-class .class .ensures) ∙ at-if2 .if2 .left));
