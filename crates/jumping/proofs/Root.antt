@@ -24,9 +24,10 @@ use Rattle.scan.specs.ShapeLaws.{solid-value, stopped-end}
 use Rattle.automaton.specs.State.{next, start}
 use Rattle.automaton.specs.Tally.{Tally, tallied, fresh}
 use Rattle.walk.specs.Walks.{Walks}
-use Rattle.jumping.specs.Pile.{Pile, Sized, Passed, root, item, ValueDue}
-use Rattle.jumping.specs.Turns.{tallyOf, Due, Onward, RootMarks, Starts, turnsLeft, Turns}
-use Rattle.jumping.specs.declared.pile.Standing.{Standing}
+use Rattle.pile.specs.Pile.{Pile, Sized, Passed, root, item, ValueDue}
+use Rattle.pile.specs.Due.{tallyOf, Due, Onward}
+use Rattle.pile.specs.declared.Standing.{Standing}
+use Rattle.jumping.specs.Turns.{RootMarks, BeforeRoot, turnsLeft, Turns}
 
 -- the marks of the root
 
@@ -82,7 +83,7 @@ root-due {x} {s} t {i} {m} z list h b e f n =
     }
 
 pub starts : {s : List ℕ} {n i m : ℕ} → EndsBlanks s 0 i → RootMarks n m
-    → Starts s n (record { at = i; item = true; depth = 0; frames = 0; marks = m; used = 0; peak = 0; stop = 0 })
+    → BeforeRoot s n (record { at = i; item = true; depth = 0; frames = 0; marks = m; used = 0; peak = 0; stop = 0 })
 unfolding fresh
 starts b r =
     record {
@@ -152,7 +153,7 @@ no-item : (b : Bool) → (b ≡ true → ⊥) → b ≡ false
 no-item true h = absurd (h refl)
 no-item false h = refl
 
-pub running-starts : {q : List ℕ} {c : Compiled} {s list : List ℕ} {z : Pile} {n : ℕ} {a : Standing} → Starts s n a → Running q c s z list a z list a
+pub running-starts : {q : List ℕ} {c : Compiled} {s list : List ℕ} {z : Pile} {n : ℕ} {a : Standing} → BeforeRoot s n a → Running q c s z list a z list a
 running-starts y =
     record {
       size-is = refl;
@@ -177,7 +178,7 @@ module _ {q : List ℕ} {c : Compiled} {s : List ℕ} {z₀ z z′ : Pile} {list
       }
 
   -- the root has been passed
-  pub walk-ends : Starts s (c .count) a₀ → Sized z₀ → r .depth ≡ 0 → Walks q c s list₀ list′ (r .used) (r .peak) (r .stop)
+  pub walk-ends : BeforeRoot s (c .count) a₀ → Sized z₀ → r .depth ≡ 0 → Walks q c s list₀ list′ (r .used) (r .peak) (r .stop)
   walk-ends y h e =
       record {
         counts = λ x k t f n.

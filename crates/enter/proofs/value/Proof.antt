@@ -1,10 +1,11 @@
 -- The node's pair is begun first; then a scalar is passed, and a container is left to its own function. Assumes nothing.
 use mathlib.Core.Path.{sym, _∙_}
 use native.Mathlib.Omega.{arith}
-use Rattle.jumping.proofs.Values.{onward-lost, onward-passed, lost-item, passed-item, due-passed, idle-begun, value-inside, scalar-due, container-due}
+use Rattle.pile.specs.DueLaws.{onward-lost, onward-passed, lost-item, passed-item, due-passed}
+use Rattle.enter.proofs.Values.{idle-begun, value-inside, scalar-due, container-due}
 use borrow.Author.Needs.{needs}
-use Rattle.jumping.proofs.value.value.Statement.{statement}
-use Rattle.jumping.proofs.value.value.Tie as tie
+use Rattle.enter.proofs.value.Statement.{statement}
+use Rattle.enter.proofs.value.Tie as tie
 
 lost-requires : tie.Need-lost-requires
 lost-requires c κs = search needs

@@ -2,8 +2,8 @@
 use mathlib.Core.Path.{refl}
 use mathlib.Core.Bool.{false≢true}
 use mathlib.Core.Logic.{inl, inr, ⊎-elim}
-use Rattle.jumping.proofs.value.is_dead.Statement.{statement}
-use Rattle.jumping.proofs.value.is_dead.Tie as tie
+use Rattle.pile.proofs.is_dead.Statement.{statement}
+use Rattle.pile.proofs.is_dead.Tie as tie
 
 returns : tie.Need-returns
 returns c = record { only = λ h. inr (c .if1 .taken); all = λ h. refl }

@@ -1,9 +1,9 @@
 -- Without frames, or where the topmost is not the container's, nothing changes. Each way out is one law of Frames. Assumes nothing.
 use mathlib.Core.Path.{sym, _∙_}
-use Rattle.jumping.proofs.Frames.{pops-none, pops-other, pops-topmost}
+use Rattle.pile.proofs.Frames.{pops-none, pops-other, pops-topmost}
 use borrow.Author.Needs.{needs}
-use Rattle.jumping.proofs.pile.pop_frame.Statement.{statement}
-use Rattle.jumping.proofs.pile.pop_frame.Tie as tie
+use Rattle.pile.proofs.pop_frame.Statement.{statement}
+use Rattle.pile.proofs.pop_frame.Tie as tie
 
 returns : tie.Need-returns
 returns c = pops-none (c .if1 .taken)

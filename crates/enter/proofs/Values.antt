@@ -2,7 +2,7 @@
 use mathlib.Core.Path.{_≡_, refl, sym, ap, ap₂, subst, _∙_}
 use mathlib.Core.List.{List, [], _∷_}
 use mathlib.Core.Logic.{inl, inr}
-use mathlib.Core.Bool.{Bool, true, false, false≢true, true≢false}
+use mathlib.Core.Bool.{Bool, true, false, false≢true}
 use Prim.Native.Nat.{ℕ, zero, suc, _+_, _-_, _≤_, _<_}
 use native.Mathlib.Nat.{le-max-right}
 use native.Mathlib.Omega.{arith}
@@ -28,83 +28,18 @@ use Rattle.pairs.specs.Pairs.{tally, Begins, Raises}
 use Rattle.walk.specs.Ahead.{ItemsAhead}
 use Rattle.walk.specs.AheadLaws.{items-inside, no-items, first-item}
 use Rattle.walk.specs.ValueLaws.{scalar-passed, container-entered}
-use Rattle.jumping.specs.Pile.{Pile, kept, Open, kindAt, Passed, ItemDue, ValueDue, ContainerDue}
-use Rattle.jumping.specs.Turns.{tallyOf, Due, Onward, Lost, PassedTo, EnteredAt, Idle, Skipped, PassesContainer}
-use Rattle.jumping.specs.declared.pile.Coming.{Coming}
-use Rattle.jumping.specs.declared.pile.Standing.{Standing}
-use Rattle.jumping.proofs.Frames.{passed-sized, passed-few, passed-kept, level-new}
+use Rattle.pile.specs.Pile.{Pile, kept, Open, kindAt, Passed, ItemDue, ValueDue, ContainerDue}
+use Rattle.pile.specs.PileLaws.{passed-sized, passed-few, passed-kept, level-new}
+use Rattle.pile.specs.Moves.{Lost, Idle, Skipped}
+use Rattle.pile.specs.Due.{tallyOf}
+use Rattle.pile.specs.DueLaws.{onward-lost, lost-item}
+use Rattle.pile.specs.declared.Coming.{Coming}
+use Rattle.pile.specs.declared.Standing.{Standing}
+use Rattle.enter.specs.Passes.{PassesContainer}
 
--- where the steps lead
-pub onward-lost : {n i j : ℕ} {a r : Standing} → Lost j a r → i ≤ j + 1 → j ≤ n → a .frames ≤ maxDepth → Onward n i r
-onward-lost y h g k =
-    rw (y .is)
-    (record {
-      onward = omega arith;
-      farther = λ e. absurd (false≢true e);
-      within = omega arith;
-      inside = λ e. absurd (e refl);
-      in-container = λ e. absurd (false≢true e);
-      room = omega arith;
-      few = k;
-    })
-
-pub onward-passed : {n i e w : ℕ} {l l′ : List ℕ} {a r : Standing} → PassedTo l l′ w e a r → i ≤ e → e ≤ n → a .depth ≤ maxDepth
-    → a .frames ≤ maxDepth → Onward n i r
-onward-passed y h g k j =
-    rw (y .is)
-    (record {
-      onward = h;
-      farther = λ e. absurd (false≢true e);
-      within = omega arith;
-      inside = λ e. g;
-      in-container = λ e. absurd (false≢true e);
-      room = k;
-      few = j;
-    })
-
-pub lost-farther : {i : ℕ} {a r : Standing} → Lost i a r → i < r .at
-lost-farther y = rw (y .is) (omega arith)
-
-pub passed-farther : {i e w : ℕ} {l l′ : List ℕ} {a r : Standing} → PassedTo l l′ w e a r → i < e → i < r .at
-passed-farther y h = rw (y .is) h
-
--- no item is ahead then
-pub lost-item : {i : ℕ} {a r : Standing} → Lost i a r → r .item ≡ false
-lost-item y = rw (y .is)
-
-pub passed-item : {e w : ℕ} {l l′ : List ℕ} {a r : Standing} → PassedTo l l′ w e a r → r .item ≡ false
-passed-item y = rw (y .is)
-
-pub onward-entered : {n b c w f : ℕ} {z z′ : Pile} {v : Coming} {a r : Standing} → EnteredAt z z′ b c w f v a r → v .at < c → c ≤ n
-    → a .depth < maxDepth → f ≤ maxDepth → Onward n (v .at) r
-onward-entered y g h k e =
-    rw (y .is)
-    (record {
-      onward = omega arith;
-      farther = λ e. omega arith;
-      within = omega arith;
-      inside = λ e. omega arith;
-      in-container = λ e. λ e. absurd (omega arith);
-      room = omega arith;
-      few = e;
-    })
-
-module _ {x : List Step} {s : List ℕ} {whole : Tally} where
-  passed-as : {z : Pile} {i j : ℕ} {t u : Tally} {d f m : ℕ} → j ≡ i → u ≡ t → Passed x s whole z i t d f m → Passed x s whole z j u d f m
-  passed-as e1 e2 p = rw (e1, e2) p
-
-  -- a value has been passed
-  pub due-passed : {z : Pile} {l l′ : List ℕ} {w e : ℕ} {a r : Standing} → PassedTo l l′ w e a r
-      → Passed x s whole z e (finish w e (tallyOf l a)) (a .depth) (a .frames) (a .marks) → Due x s whole z l′ r
-  unfolding finish
-  due-passed y p =
-      rw (y .is, y .list-is) (record { root = λ e. absurd (false≢true e); item = λ e. absurd (false≢true e); passed = λ e. p })
-
-  -- a container has been entered
-  pub due-entered : {z z′ : Pile} {l : List ℕ} {b c w f : ℕ} {v : Coming} {a r : Standing} → EnteredAt z z′ b c w f v a r
-      → ItemDue x s whole (kept z (a .frames) (a .depth) (a .marks) w b) c (tallyOf l a) (a .depth + 1) f (v .marks) → Due x s whole z′ l r
-  due-entered y p =
-      rw (y .is, y .pile-is) (record { root = λ e g. absurd (omega arith); item = λ e g. p; passed = λ e. absurd (true≢false e) })
+passed-as : {x : List Step} {s : List ℕ} {whole : Tally} {z : Pile} {i j : ℕ} {t u : Tally} {d f m : ℕ} → j ≡ i → u ≡ t
+    → Passed x s whole z i t d f m → Passed x s whole z j u d f m
+passed-as e1 e2 p = rw (e1, e2) p
 
 -- a node that is begun after a stop changes nothing
 pub idle-begun : {p : Bool} {l : List ℕ} {u k i : ℕ} {l′ : List ℕ} {u′ k′ w m : ℕ} → Begins p l u k i l′ u′ k′ w → Idle m k → Idle m k′

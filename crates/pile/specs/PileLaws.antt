@@ -13,8 +13,8 @@ use Rattle.query.specs.Steps.{Step}
 use Rattle.json.specs.Verdict.{maxDepth}
 use Rattle.select.specs.Ways.{frameIf}
 use Rattle.automaton.specs.Tally.{Tally}
-use Rattle.jumping.specs.Pile.{Pile, pile, kept, Sized, Open, Framed, shared, own, Level, Passed, root, item}
-use Rattle.jumping.specs.Turns.{Pops, other, topmost}
+use Rattle.pile.specs.Pile.{Pile, pile, kept, Sized, Open, Framed, shared, own, Level, Passed, root, item}
+use Rattle.pile.specs.Moves.{Pops, other, topmost}
 
 pub pile-same : {l l′ h h′ w b : List ℕ} → l ≡ l′ → h ≡ h′ → pile l h w b ≡ pile l′ h′ w b
 pile-same e1 e2 = cc
@@ -24,21 +24,6 @@ pub clear-sized : Sized (pile (replicate maxDepth 0) (replicate maxDepth 0) (rep
 clear-sized =
     let clear = length-replicate {A = ℕ} maxDepth 0 in
     record { levels = clear; held = clear; waits = clear; brackets = clear }
-
--- the ways through a container's leaving
-module _ {levels held : List ℕ} {f d m : ℕ} where
-  pub pops-none : f ≡ 0 → Pops levels held f d m f m
-  pops-none e = other (λ k h x. omega arith)
-
-  pub pops-other : (getD levels (f - 1) 0 ≡ d → ⊥) → Pops levels held f d m f m
-  pops-other n = other (λ k h x. let e : f - 1 ≡ k = omega arith in n (ap (λ (j : ℕ). getD levels j 0) e ∙ x))
-
-  pub pops-topmost : (f ≡ 0 → ⊥) → getD levels (f - 1) 0 ≡ d → Pops levels held f d m (f - 1) (getD held (f - 1) 0)
-  pops-topmost n x = topmost (f - 1) (go f n) x
-    where
-      go : (f : ℕ) → (f ≡ 0 → ⊥) → f ≡ f - 1 + 1
-      go zero n = absurd (n refl)
-      go (suc f) n = omega arith
 
 pub pops-few : {levels held : List ℕ} {f d m f′ m′ : ℕ} → Pops levels held f d m f′ m′ → f′ ≤ f
 pops-few (other n) = omega arith

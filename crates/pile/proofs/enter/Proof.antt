@@ -1,9 +1,9 @@
 -- The frame's slot and the two of its depth are written; the numbers of the standing are copied. Assumes nothing.
 use mathlib.Core.Path.{refl}
-use Rattle.jumping.proofs.Frames.{pile-same}
+use Rattle.pile.specs.PileLaws.{pile-same}
 use borrow.Author.Needs.{needs}
-use Rattle.jumping.proofs.value.enter.Statement.{statement}
-use Rattle.jumping.proofs.value.enter.Tie as tie
+use Rattle.pile.proofs.enter.Statement.{statement}
+use Rattle.pile.proofs.enter.Tie as tie
 
 push-frame-requires : tie.Need-push-frame-requires
 push-frame-requires c κs = search needs

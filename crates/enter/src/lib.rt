@@ -1,15 +1,19 @@
-// A value that is ahead: passed at once, or, where it is a container with items that is not dead, entered.
-use super::pile::Coming;
-use super::pile::MAX_DEPTH;
-use super::pile::Standing;
-use super::pile::push_frame;
+// A value that is ahead of the jumping walk: passed at once, or, where it is a container with items that is not dead, entered.
+use encoding::CLOSING;
+use encoding::OPENING;
 use encoding::class;
+use json::MAX_DEPTH;
 use leap::KEPT;
 use leap::leave;
 use marks::framed;
 use pairs::begin;
-use pairs::finish;
 use pairs::raise;
+use pile::Coming;
+use pile::Standing;
+use pile::enter;
+use pile::is_dead;
+use pile::lost;
+use pile::pass;
 use scan::scalar_end;
 use scan::skip_blanks;
 ghost use Prim.Native.Nat.{_≤_, _<_};
@@ -17,97 +21,8 @@ ghost use lib.ListN.{length};
 ghost use Rattle.encoding.specs.ClassTable.{ClassTable};
 ghost use Rattle.json.specs.Verdict.{maxBytes, maxDepth};
 ghost use Rattle.leap.specs.Passing.{Kept};
-ghost use Rattle.jumping.specs.Pile.{pile};
-ghost use Rattle.jumping.specs.Turns.{Lost, PassedTo, EnteredAt, Skipped, PassesValue, PassesContainer};
-
-// The classes of brackets.
-const OPENING: u8 = 1;
-
-const CLOSING: u8 = 2;
-
-// The end of the walk at bytes that no tree explains.
-pub fn lost(a: Standing, at: usize) -> Standing
-    requires { ⌜ at ≤ maxBytes ⌝ }
-    ensures { λ r. ⌜ Lost at a r ⌝ }
-{
-    Standing {
-        at: at + 1,
-        item: false,
-        depth: 0,
-        frames: a.frames,
-        marks: a.marks,
-        used: a.used,
-        peak: a.peak,
-        stop: a.stop,
-    }
-}
-
-// Past a value that ends at `end`, which goes into the pair that waits for it.
-pub fn pass(list: &mut [u32], wait: usize, end: usize, a: Standing) -> Standing
-    requires { ⌜ end ≤ maxBytes ⌝ }
-    ensures { λ r. ⌜ PassedTo (now (list .entry)) (now (list .exit)) wait end a r ⌝ }
-{
-    finish(list, wait, end);
-    Standing {
-        at: end,
-        item: false,
-        depth: a.depth,
-        frames: a.frames,
-        marks: a.marks,
-        used: a.used,
-        peak: a.peak,
-        stop: a.stop,
-    }
-}
-
-// Whether a container with these marks is passed without a look inside: exactly if it has none, or the list was full.
-fn is_dead(marks: u16, stop: usize) -> bool
-    ensures { λ r. ⌜ Skipped marks stop r ⌝ }
-{
-    if stop != 0 {
-        return true;
-    }
-    if marks != 0 {
-        return false;
-    }
-    true
-}
-
-// Enters the container ahead, up to its first item at `first`, and keeps what is needed when it is left.
-fn enter(
-    bracket: u8,
-    first: usize,
-    v: Coming,
-    wait: usize,
-    frames: usize,
-    a: Standing,
-    levels: &mut [u16; MAX_DEPTH],
-    held: &mut [u16; MAX_DEPTH],
-    waits: &mut [usize; MAX_DEPTH],
-    brackets: &mut [u8; MAX_DEPTH],
-) -> Standing
-    requires { ⌜ (a .frames < maxDepth) × (a .depth < maxDepth) ⌝ }
-    ensures { λ r. ⌜ EnteredAt
-        (pile (now (levels .entry)) (now (held .entry)) (now (waits .entry)) (now (brackets .entry)))
-        (pile (now (levels .exit)) (now (held .exit)) (now (waits .exit)) (now (brackets .exit)))
-        bracket first wait frames v a r ⌝ }
-{
-    let depth = a.depth;
-    push_frame(levels, held, a.frames, depth, a.marks);
-    waits[depth] = wait;
-    brackets[depth] = bracket;
-    let inner = depth + 1;
-    Standing {
-        at: first,
-        item: true,
-        depth: inner,
-        frames,
-        marks: v.marks,
-        used: a.used,
-        peak: a.peak,
-        stop: a.stop,
-    }
-}
+ghost use Rattle.pile.specs.Pile.{pile};
+ghost use Rattle.enter.specs.Passes.{PassesValue, PassesContainer};
 
 // Passes the container ahead, whose pair is begun, or enters it where it has items and is not dead. Its frame counts in either case.
 fn container(

@@ -3,11 +3,11 @@
 use mathlib.Core.Path.{sym, _∙_}
 use mathlib.Core.Bool.{true≢false}
 use native.Mathlib.Omega.{arith}
-use Rattle.jumping.proofs.Values.{onward-passed, onward-entered, passed-item, due-passed, due-entered, has-level, has-frame, framed-fits}
-use Rattle.jumping.proofs.Values.{container-lost, skipped-due, more-bytes, empty-due, items-due}
+use Rattle.pile.specs.DueLaws.{onward-passed, onward-entered, passed-item, due-passed, due-entered}
+use Rattle.enter.proofs.Values.{has-level, has-frame, framed-fits, container-lost, skipped-due, more-bytes, empty-due, items-due}
 use borrow.Author.Needs.{needs}
-use Rattle.jumping.proofs.value.container.Statement.{statement}
-use Rattle.jumping.proofs.value.container.Tie as tie
+use Rattle.enter.proofs.container.Statement.{statement}
+use Rattle.enter.proofs.container.Tie as tie
 
 lost-requires : tie.Need-lost-requires
 lost-requires c κs = search needs
