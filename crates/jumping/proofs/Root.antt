@@ -4,10 +4,9 @@ use mathlib.Core.List.{List, []}
 use mathlib.Core.Bool.{Bool, true, false, true≢false}
 use Prim.Native.Nat.{ℕ, zero, suc, _+_, _-_, _≤_, _<_}
 use native.Mathlib.Omega.{arith}
-use lib.Dec.{eqb, eqb·suc-zero}
+use lib.Dec.{eqb}
 use lib.ListN.{length, drop}
 use borrow.Author.Tests.{eq-eqb}
-use Rattle.bits.specs.Bits.{number, digit}
 use Rattle.encoding.specs.Bytes.{putBlanks}
 use Rattle.json.specs.Grammar.{Tree, text, nesting, putValue}
 use Rattle.json.specs.Verdict.{maxDepth}
@@ -21,7 +20,8 @@ use Rattle.select.specs.Ways.{frameIf}
 use Rattle.scan.specs.Places.{past-blanks}
 use Rattle.scan.specs.Scans.{EndsBlanks}
 use Rattle.scan.specs.ShapeLaws.{solid-value, stopped-end}
-use Rattle.automaton.specs.State.{next, start}
+use Rattle.automaton.specs.Start.{start-none, start-some}
+use Rattle.automaton.specs.State.{State, next, start}
 use Rattle.automaton.specs.Tally.{Tally, tallied, fresh}
 use Rattle.walk.specs.Walks.{Walks}
 use Rattle.pile.specs.Pile.{Pile, Sized, Passed, root, item, ValueDue}
@@ -31,21 +31,11 @@ use Rattle.jumping.specs.Turns.{RootMarks, BeforeRoot, turnsLeft, Turns}
 
 -- the marks of the root
 
-number-none : (n : ℕ) (f : ℕ → Bool) → ((i : ℕ) → f i ≡ false) → number n f ≡ 0
-unfolding number digit
-number-none zero f h = refl
-number-none (suc n) f h = rw (number-none n (λ i. f (suc i)) (λ i. h (suc i)), h 0)
-
 pub roots-none : {n : ℕ} → n ≡ 0 → RootMarks n 0
-unfolding start number
-roots-none e = record { are = λ x h. ap (λ (k : ℕ). number k (λ i. eqb i 0)) (sym e ∙ h) }
+roots-none e = record { are = λ x h. ap (λ (y : State). y .marks) (sym (start-none x (sym h ∙ e))) }
 
-pub roots-some : (n : ℕ) → (n ≡ 0 → ⊥) → RootMarks n 1
-unfolding start number digit
-roots-some zero f = absurd (f refl)
-roots-some (suc n) f =
-    let z : number n (λ i. eqb (suc i) 0) ≡ 0 = number-none n (λ i. eqb (suc i) 0) eqb·suc-zero in
-    record { are = λ x h. rw (← h, z) }
+pub roots-some : {n : ℕ} → (n ≡ 0 → ⊥) → RootMarks n 1
+roots-some f = record { are = λ x h. ap (λ (y : State). y .marks) (sym (start-some x (λ e. f (h ∙ e)))) }
 
 same-frame : (m f : ℕ) → f ≡ frameIf (eqb m m) f
 unfolding frameIf
