@@ -7,7 +7,6 @@ use Prim.Native.Nat.{ℕ, zero, suc, _+_, _≤_}
 use native.Mathlib.Nat.{max-eq-left}
 use native.Mathlib.Omega.{arith}
 use lib.ListN.{length, getElem?}
-use Rattle.bits.specs.Bits as B
 use Rattle.bits.specs.Laws.{bit-zero}
 use Rattle.json.specs.Grammar.{Kind, Value, literal, number, string, container, Items, empty, items, More, end, more}
 use Rattle.query.specs.Steps.{Step, isDeep}
@@ -15,6 +14,7 @@ use Rattle.select.specs.Nodes.{Label, Node, size, keySize, labelOf}
 use Rattle.select.specs.MarksStep.{stepHits}
 use Rattle.select.specs.Visits.{visit, visits, itemsVisits, moreVisits}
 use Rattle.select.specs.Ways.{frameIf, containerFrames}
+use Rattle.automaton.specs.Start.{number-none}
 use Rattle.automaton.specs.State.{State, nextMark, nextMarks, pickAt, nextPicked, next}
 use Rattle.automaton.specs.Tally.{Tally, listIfPicked, listFrom, listed, raiseFrom, raised, put, tallied}
 use Rattle.automaton.specs.Halves.{tallied-append}
@@ -22,13 +22,6 @@ use Rattle.automaton.specs.Halves.{tallied-append}
 -- the state at every node below a dead container
 abbrev pub deadState : ℕ → State
 deadState f = record { marks = 0; picked = false; frames = f }
-
-number-none : (n : ℕ) (f : ℕ → Bool) → ((i : ℕ) → f i ≡ false) → B.number n f ≡ 0
-unfolding B.number B.digit
-number-none zero f h = refl
-number-none (suc n) f h =
-    let low : B.digit (f 0) ≡ 0 = ap B.digit (h 0) in
-    omega (arith, number-none n (λ i. f (suc i)) (λ i. h (suc i)))
 
 module _ (q : List Step) where
   no-mark : (l : Label) (i : ℕ) → nextMark q 0 l i ≡ false
@@ -50,10 +43,10 @@ module _ (q : List Step) where
   next-dead s l e = rw (e, number-none (length q) (nextMark q 0 l) (no-mark l), no-pick l (length q)) refl
 
 -- the frames of a dead container count already
-abbrev pub Counted : Tally → ℕ → Type 0
-Counted t f = t .stop ≡ 0 → f ≤ t .peak
+abbrev pub PeakCovers : Tally → ℕ → Type 0
+PeakCovers t f = t .stop ≡ 0 → f ≤ t .peak
 
-raised-counted : (k : ℕ) (t : Tally) → Counted t k → raised k t ≡ t
+raised-counted : (k : ℕ) (t : Tally) → PeakCovers t k → raised k t ≡ t
 unfolding raised raiseFrom
 raised-counted k t h = go (t .stop) refl
   where
@@ -69,14 +62,14 @@ listed-none t n = go (t .stop)
     go zero = refl
     go (suc s) = refl
 
-scalar-or-container : (v : Value) (t : Tally) (f : ℕ) → Counted t f → Counted t (containerFrames v f)
+scalar-or-container : (v : Value) (t : Tally) (f : ℕ) → PeakCovers t f → PeakCovers t (containerFrames v f)
 unfolding containerFrames
 scalar-or-container (literal l) t f h = λ e. omega arith
 scalar-or-container (number g n x e) t f h = λ e. omega arith
 scalar-or-container (string cs) t f h = λ e. omega arith
 scalar-or-container (container k is) t f h = h
 
-put-dead : (v : Value) (a f : ℕ) (t : Tally) → Counted t f → put t (visit (deadState f) v a) ≡ t
+put-dead : (v : Value) (a f : ℕ) (t : Tally) → PeakCovers t f → put t (visit (deadState f) v a) ≡ t
 unfolding put
 put-dead v a f t h =
     ap (raised (containerFrames v f)) (listed-none t (record { value = v; first = a }))
@@ -86,7 +79,7 @@ module _ (q : List Step) where
   mutual
     unfolding visits tallied
 
-    pub value-dead : (v : Value) (f a : ℕ) (t : Tally) → Counted t f → tallied t (visits (next q) v (deadState f) a) ≡ t
+    pub value-dead : (v : Value) (f a : ℕ) (t : Tally) → PeakCovers t f → tallied t (visits (next q) v (deadState f) a) ≡ t
     value-dead (literal l) f a t h = put-dead (literal l) a f t h
     value-dead (number g n x e) f a t h = put-dead (number g n x e) a f t h
     value-dead (string cs) f a t h = put-dead (string cs) a f t h
@@ -95,7 +88,7 @@ module _ (q : List Step) where
         ∙ items-dead is (deadState f) (a + 1) t refl h
 
     -- the items of a container without marks, whose own frames count already
-    pub items-dead : {k : Kind} (is : Items k) (s : State) (a : ℕ) (t : Tally) → s .marks ≡ 0 → Counted t (s .frames)
+    pub items-dead : {k : Kind} (is : Items k) (s : State) (a : ℕ) (t : Tally) → s .marks ≡ 0 → PeakCovers t (s .frames)
         → tallied t (itemsVisits (next q) is s a) ≡ t
     items-dead (empty w) s a t e h = refl
     items-dead {k} (items w key v m) s a t e h =
@@ -106,7 +99,7 @@ module _ (q : List Step) where
         ∙ ap (λ (x : Tally). tallied x (moreVisits (next q) m s 1 (b + size v))) (value-dead v (s .frames) b t h)
         ∙ more-dead m s 1 (b + size v) t e h
 
-    pub more-dead : {k : Kind} (m : More k) (s : State) (j a : ℕ) (t : Tally) → s .marks ≡ 0 → Counted t (s .frames)
+    pub more-dead : {k : Kind} (m : More k) (s : State) (j a : ℕ) (t : Tally) → s .marks ≡ 0 → PeakCovers t (s .frames)
         → tallied t (moreVisits (next q) m s j a) ≡ t
     more-dead (end w) s j a t e h = refl
     more-dead {k} (more w w′ key v m) s j a t e h =

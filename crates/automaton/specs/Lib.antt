@@ -1,4 +1,5 @@
 pub mod State
+pub mod Start
 pub mod StateIs
 pub mod Tally
 pub mod TallyIs

@@ -33,7 +33,7 @@ stopAt [] = 0
 stopAt (s ∷ ss) = s .first + 1
 
 -- the tally t after visits among which these spans are picked out and the most frames are m, with k pairs left in the list
-pub record Counted (before after : Tally) (k : ℕ) (ss : List Span) (m : ℕ) : Type 0 where
+pub record AddsUp (before after : Tally) (k : ℕ) (ss : List Span) (m : ℕ) : Type 0 where
   pub list-is : after .list ≡ setPairs (before .list) (before .used) (take k ss)
   pub used-is : after .used ≡ before .used + length (take k ss)
   pub stop-is : after .stop ≡ stopAt (drop k ss)
@@ -72,11 +72,11 @@ active l u h = record { list = l; used = u; peak = h; stop = 0 }
 
 module _ (q : List Step) where
   counts : (vs : List (Visit Way)) (l : List ℕ) (u k h : ℕ) → u + k ≡ pairsOf l
-      → Counted (active l u h) (tallied (active l u h) (map (over (stateAt q)) vs)) k (pickedSpans q vs) (mostFrames q vs)
+      → AddsUp (active l u h) (tallied (active l u h) (map (over (stateAt q)) vs)) k (pickedSpans q vs) (mostFrames q vs)
   unfolding tallied put listed listFrom listIfPicked listIfRoom raised raiseFrom pickedSpans spanIf spanOf mostFrames setPairs stopAt stateAt
   counts [] l u k h e = none k
     where
-      none : (k : ℕ) → Counted (active l u h) (active l u h) k [] 0
+      none : (k : ℕ) → AddsUp (active l u h) (active l u h) k [] 0
       none zero = record { list-is = refl; used-is = omega arith; stop-is = refl; peak-is = λ z. sym (max-zero h) }
       none (suc k) = record { list-is = refl; used-is = omega arith; stop-is = refl; peak-is = λ z. sym (max-zero h) }
   counts (v ∷ vs) l u k h e = go (picks q (v .state)) k e (λ l u k h e. counts vs l u k h e)
@@ -86,12 +86,12 @@ module _ (q : List Step) where
 
       Goal : Bool → ℕ → Type 0
       Goal b k =
-          Counted (active l u h) (tallied (raised f (listIfPicked b (active l u h) (v .node))) (map (over (stateAt q)) vs)) k
+          AddsUp (active l u h) (tallied (raised f (listIfPicked b (active l u h) (v .node))) (map (over (stateAt q)) vs)) k
           (spanIf b (v .node) (pickedSpans q vs)) (max f (mostFrames q vs))
 
       go : (b : Bool) (k : ℕ) → u + k ≡ pairsOf l
           → ((l : List ℕ) (u k h : ℕ) → u + k ≡ pairsOf l
-          → Counted (active l u h) (tallied (active l u h) (map (over (stateAt q)) vs)) k (pickedSpans q vs) (mostFrames q vs))
+          → AddsUp (active l u h) (tallied (active l u h) (map (over (stateAt q)) vs)) k (pickedSpans q vs) (mostFrames q vs))
           → Goal b k
       go false k e again =
           let r = again l u k (max h f) e in

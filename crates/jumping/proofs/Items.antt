@@ -22,9 +22,9 @@ use Rattle.automaton.specs.Tally.{Tally, tallied}
 use Rattle.automaton.specs.Halves.{finish}
 use Rattle.walk.specs.Ahead.{valueAt}
 use Rattle.walk.specs.AheadLaws as A
-use Rattle.jumping.specs.Pile.{Pile, kindAt, Passed, root, item, ItemDue, ValueDue}
-use Rattle.jumping.specs.Turns.{Pops}
-use Rattle.jumping.proofs.Frames.{popped}
+use Rattle.pile.specs.Pile.{Pile, kindAt, Passed, root, item, ItemDue, ValueDue}
+use Rattle.pile.specs.PileLaws.{popped}
+use Rattle.pile.specs.Moves.{Pops}
 
 -- the label of an item by where its name's bytes are
 label-is : (s : List ℕ) (a e : ℕ) (b : Bool) (key : Key (kindIf b)) (j : ℕ) → NameAt (kindIf b) key s a e

@@ -1,4 +1,2 @@
-pub mod Frames
 pub mod Items
 pub mod Root
-pub mod Values

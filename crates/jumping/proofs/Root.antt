@@ -4,10 +4,9 @@ use mathlib.Core.List.{List, []}
 use mathlib.Core.Bool.{Bool, true, false, true≢false}
 use Prim.Native.Nat.{ℕ, zero, suc, _+_, _-_, _≤_, _<_}
 use native.Mathlib.Omega.{arith}
-use lib.Dec.{eqb, eqb·suc-zero}
+use lib.Dec.{eqb}
 use lib.ListN.{length, drop}
 use borrow.Author.Tests.{eq-eqb}
-use Rattle.bits.specs.Bits.{number, digit}
 use Rattle.encoding.specs.Bytes.{putBlanks}
 use Rattle.json.specs.Grammar.{Tree, text, nesting, putValue}
 use Rattle.json.specs.Verdict.{maxDepth}
@@ -21,30 +20,22 @@ use Rattle.select.specs.Ways.{frameIf}
 use Rattle.scan.specs.Places.{past-blanks}
 use Rattle.scan.specs.Scans.{EndsBlanks}
 use Rattle.scan.specs.ShapeLaws.{solid-value, stopped-end}
-use Rattle.automaton.specs.State.{next, start}
+use Rattle.automaton.specs.Start.{start-none, start-some}
+use Rattle.automaton.specs.State.{State, next, start}
 use Rattle.automaton.specs.Tally.{Tally, tallied, fresh}
 use Rattle.walk.specs.Walks.{Walks}
-use Rattle.jumping.specs.Pile.{Pile, Sized, Passed, root, item, ValueDue}
-use Rattle.jumping.specs.Turns.{tallyOf, Due, Onward, RootMarks, Starts, turnsLeft, Turns}
-use Rattle.jumping.specs.declared.pile.Standing.{Standing}
+use Rattle.pile.specs.Pile.{Pile, Sized, Passed, root, item, ValueDue}
+use Rattle.pile.specs.Due.{tallyOf, Due, Onward}
+use Rattle.pile.specs.declared.Standing.{Standing}
+use Rattle.jumping.specs.Turns.{RootMarks, BeforeRoot, turnsLeft, Turns}
 
 -- the marks of the root
 
-number-none : (n : ℕ) (f : ℕ → Bool) → ((i : ℕ) → f i ≡ false) → number n f ≡ 0
-unfolding number digit
-number-none zero f h = refl
-number-none (suc n) f h = rw (number-none n (λ i. f (suc i)) (λ i. h (suc i)), h 0)
-
 pub roots-none : {n : ℕ} → n ≡ 0 → RootMarks n 0
-unfolding start number
-roots-none e = record { are = λ x h. ap (λ (k : ℕ). number k (λ i. eqb i 0)) (sym e ∙ h) }
+roots-none e = record { are = λ x h. ap (λ (y : State). y .marks) (sym (start-none x (sym h ∙ e))) }
 
-pub roots-some : (n : ℕ) → (n ≡ 0 → ⊥) → RootMarks n 1
-unfolding start number digit
-roots-some zero f = absurd (f refl)
-roots-some (suc n) f =
-    let z : number n (λ i. eqb (suc i) 0) ≡ 0 = number-none n (λ i. eqb (suc i) 0) eqb·suc-zero in
-    record { are = λ x h. rw (← h, z) }
+pub roots-some : {n : ℕ} → (n ≡ 0 → ⊥) → RootMarks n 1
+roots-some f = record { are = λ x h. ap (λ (y : State). y .marks) (sym (start-some x (λ e. f (h ∙ e)))) }
 
 same-frame : (m f : ℕ) → f ≡ frameIf (eqb m m) f
 unfolding frameIf
@@ -82,7 +73,7 @@ root-due {x} {s} t {i} {m} z list h b e f n =
     }
 
 pub starts : {s : List ℕ} {n i m : ℕ} → EndsBlanks s 0 i → RootMarks n m
-    → Starts s n (record { at = i; item = true; depth = 0; frames = 0; marks = m; used = 0; peak = 0; stop = 0 })
+    → BeforeRoot s n (record { at = i; item = true; depth = 0; frames = 0; marks = m; used = 0; peak = 0; stop = 0 })
 unfolding fresh
 starts b r =
     record {
@@ -152,7 +143,7 @@ no-item : (b : Bool) → (b ≡ true → ⊥) → b ≡ false
 no-item true h = absurd (h refl)
 no-item false h = refl
 
-pub running-starts : {q : List ℕ} {c : Compiled} {s list : List ℕ} {z : Pile} {n : ℕ} {a : Standing} → Starts s n a → Running q c s z list a z list a
+pub running-starts : {q : List ℕ} {c : Compiled} {s list : List ℕ} {z : Pile} {n : ℕ} {a : Standing} → BeforeRoot s n a → Running q c s z list a z list a
 running-starts y =
     record {
       size-is = refl;
@@ -177,7 +168,7 @@ module _ {q : List ℕ} {c : Compiled} {s : List ℕ} {z₀ z z′ : Pile} {list
       }
 
   -- the root has been passed
-  pub walk-ends : Starts s (c .count) a₀ → Sized z₀ → r .depth ≡ 0 → Walks q c s list₀ list′ (r .used) (r .peak) (r .stop)
+  pub walk-ends : BeforeRoot s (c .count) a₀ → Sized z₀ → r .depth ≡ 0 → Walks q c s list₀ list′ (r .used) (r .peak) (r .stop)
   walk-ends y h e =
       record {
         counts = λ x k t f n.

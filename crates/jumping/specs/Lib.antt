@@ -1,2 +1,1 @@
-pub mod Pile
 pub mod Turns

@@ -1,19 +1,19 @@
 // The jumping walk: one loop over an explicit pile of frames, which goes straight to the end of a dead container.
 use encoding::classes;
+use enter::value;
+use json::MAX_DEPTH;
 use leap::KEPT;
 use leap::none_kept;
 use marks::advance;
 use pairs::Counts;
 use pile::Coming;
-use pile::MAX_DEPTH;
 use pile::Standing;
+use pile::lost;
+use pile::pass;
 use pile::pop_frame;
 use query::Compiled;
 use scan::enter_item;
 use scan::skip_blanks;
-use value::lost;
-use value::pass;
-use value::value;
 ghost use mathlib.Core.Path.{_≡_};
 ghost use mathlib.Core.Bool.{true, false};
 ghost use Prim.Native.Nat.{_≤_};
@@ -23,11 +23,8 @@ ghost use Rattle.json.specs.Verdict.{maxBytes, maxDepth};
 ghost use Rattle.leap.specs.Passing.{Kept};
 ghost use Rattle.marks.specs.Advances.{Fits, Bounds};
 ghost use Rattle.walk.specs.Walks.{Walks};
-ghost use Rattle.jumping.specs.Pile.{pile};
-ghost use Rattle.jumping.specs.Turns.{RootMarks, Starts, Comes, GoesOn, Turns};
-
-mod pile;
-mod value;
+ghost use Rattle.pile.specs.Pile.{pile};
+ghost use Rattle.jumping.specs.Turns.{RootMarks, BeforeRoot, Comes, GoesOn, Turns};
 
 // The opening bracket of an object, and the byte between two items.
 const OBJECT: u8 = b'{';
@@ -46,7 +43,7 @@ fn root_marks(count: usize) -> u16
 
 // Before the root of the record, for a query of `count` steps.
 fn start(record: &[u8], count: usize) -> Standing
-    ensures { λ r. ⌜ Starts (now («record» .entry)) count r ⌝ }
+    ensures { λ r. ⌜ BeforeRoot (now («record» .entry)) count r ⌝ }
 {
     let at = skip_blanks(record, 0);
     let marks = root_marks(count);

@@ -1,3 +1,3 @@
 pub mod Names
 pub mod Hits
-pub mod Marks
+pub mod NextMarks

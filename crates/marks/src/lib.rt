@@ -7,6 +7,7 @@ ghost use lib.Dec.{ltb, eqb};
 ghost use lib.ListN.{length};
 ghost use lib.Seq.{slice};
 ghost use Rattle.bits.specs.Bits.{bit};
+ghost use Rattle.json.specs.Verdict.{maxDepth};
 ghost use Rattle.query.specs.Verdict.{maxSteps};
 ghost use Rattle.select.specs.Ways.{sameName, frameIf};
 ghost use Rattle.marks.specs.Advances.{Fits, Bounds, namedHit, Taken, Advances};
@@ -154,7 +155,7 @@ pub fn advance(
 
 // The frames with a container whose marks these are: one more where they differ from those of the container around it.
 pub fn framed(around: u16, marks: u16, frames: usize) -> usize
-    requires { ⌜ frames < 512 ⌝ }
+    requires { ⌜ frames < maxDepth ⌝ }
     ensures { λ r. ⌜ r ≡ frameIf (eqb around marks) frames ⌝ }
 {
     if around == marks {

@@ -33,11 +33,12 @@ begins-full p l u s a e f h =
       waits = λ k. ap (λ (x : Bool). waitingIfRoom x u) b;
     })
 
-pub begins-room : (p : Bool) (l : List ℕ) (u s a : ℕ) → s ≡ 0 → p ≡ true → u < length l / 2 → Begins p l u s a (set l (u * 2) a) (u + 1) s (u + 1)
+pub begins-room : (p : Bool) (l : List ℕ) (u s a : ℕ) {l′ : List ℕ} → s ≡ 0 → p ≡ true → u < length l / 2 → l′ ≡ set l (u * 2) a
+    → Begins p l u s a l′ (u + 1) s (u + 1)
 unfolding begin beginFrom beginIfPicked beginIfRoom waiting waitingFrom waitingIfPicked waitingIfRoom pairsOf
-begins-room p l u s a e f h =
+begins-room p l u s a e f h w =
     let b : ltb u (length l / 2) ≡ true = lt-ltb u (length l / 2) h in
-    rw (e, f)
+    rw (e, f, w)
     (record {
       begun = λ k. ap (λ (x : Bool). beginIfRoom x (tally l u k 0) a) b;
       waits = λ k. ap (λ (x : Bool). waitingIfRoom x u) b ∙ sym (add-one u);
@@ -52,10 +53,10 @@ unfolding endPair
 ends-out zero e l h b = absurd (h refl)
 ends-out (suc w) e l h b = sym (set-out l (w * 2 + 1) e (omega arith))
 
-pub ends-in : (w e : ℕ) (l : List ℕ) → (w ≡ 0 → ⊥) → set l ((w - 1) * 2 + 1) e ≡ endPair w e l
+pub ends-in : (w e : ℕ) (l : List ℕ) {l′ : List ℕ} → (w ≡ 0 → ⊥) → l′ ≡ set l ((w - 1) * 2 + 1) e → l′ ≡ endPair w e l
 unfolding endPair
-ends-in zero e l h = absurd (h refl)
-ends-in (suc w) e l h = let z : suc w - 1 ≡ w = omega arith in rw z
+ends-in zero e l h y = absurd (h refl)
+ends-in (suc w) e l h y = let z : suc w - 1 ≡ w = omega arith in rw (y, z)
 
 pub raises-stopped : (p k s : ℕ) → (s ≡ 0 → ⊥) → Raises p k s p
 unfolding raised raiseFrom

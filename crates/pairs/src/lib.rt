@@ -1,7 +1,9 @@
 // Pairs of the lent list, and the peak: what a walk writes and counts at a node.
 ghost use mathlib.Core.Path.{_≡_};
 ghost use Prim.Native.Nat.{_≤_};
+ghost use lib.ListN.{set};
 ghost use Rattle.automaton.specs.Halves.{endPair};
+ghost use Rattle.json.specs.Verdict.{maxBytes};
 ghost use Rattle.pairs.specs.Pairs.{Begins, Raises};
 
 // What a walk counts: the pairs used, the most frames at once, and one more than the first byte of the first node left over, or 0.
@@ -18,10 +20,21 @@ pub struct Begun {
     pub wait: usize,
 }
 
+// Writes a place of the record into slot `i` of the list, if the list has one.
+fn write(list: &mut [u32], i: usize, place: usize)
+    requires { ⌜ place ≤ maxBytes ⌝ }
+    ensures { λ _. ⌜ now (list .exit) ≡ set (now (list .entry)) i place ⌝ }
+{
+    if i >= list.len() {
+        return;
+    }
+    list[i] = place as u32;
+}
+
 // Takes the next pair for a node that is picked out and writes its first byte there. Where no pair is left the walk stops at this
 // node. Nothing changes for a node that is not picked out, and nothing after a stop.
 pub fn begin(list: &mut [u32], picked: bool, used: usize, stop: usize, at: usize) -> Begun
-    requires { ⌜ at ≤ 16777216 ⌝ }
+    requires { ⌜ at ≤ maxBytes ⌝ }
     ensures { λ r. ⌜ Begins picked (now (list .entry)) used stop at (now (list .exit)) (r .used) (r .stop) (r .wait) ⌝ }
 {
     if stop != 0 {
@@ -45,8 +58,7 @@ pub fn begin(list: &mut [u32], picked: bool, used: usize, stop: usize, at: usize
             wait: 0,
         };
     }
-    let first = used * 2;
-    list[first] = at as u32;
+    write(list, used * 2, at);
     Begun {
         used: used + 1,
         stop,
@@ -56,7 +68,7 @@ pub fn begin(list: &mut [u32], picked: bool, used: usize, stop: usize, at: usize
 
 // Writes the end of a node into the pair that waits for it, if one does.
 pub fn finish(list: &mut [u32], wait: usize, end: usize)
-    requires { ⌜ end ≤ 16777216 ⌝ }
+    requires { ⌜ end ≤ maxBytes ⌝ }
     ensures { λ _. ⌜ now (list .exit) ≡ endPair wait end (now (list .entry)) ⌝ }
 {
     if wait == 0 {
@@ -66,8 +78,7 @@ pub fn finish(list: &mut [u32], wait: usize, end: usize)
     if pair >= list.len() / 2 {
         return;
     }
-    let second = pair * 2 + 1;
-    list[second] = end as u32;
+    write(list, pair * 2 + 1, end);
 }
 
 // The most frames so far, where a container with these frames is met. Nothing changes after a stop.

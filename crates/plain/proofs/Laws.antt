@@ -5,10 +5,9 @@ use mathlib.Core.List.{List, [], _∷_}
 use mathlib.Core.Bool.{Bool, true, false, false≢true}
 use Prim.Native.Nat.{ℕ, zero, suc, _+_, _-_, _≤_, _<_}
 use native.Mathlib.Omega.{arith}
-use lib.Dec.{eqb, eqb·suc-zero}
+use lib.Dec.{eqb}
 use lib.ListN.{length, drop, getD, length-drop}
 use lib.Seq.{slice}
-use Rattle.bits.specs.Bits.{number, digit}
 use Rattle.encoding.specs.Bytes.{putBlanks}
 use Rattle.encoding.specs.Class.{classOf}
 use Rattle.json.specs.Grammar.{Kind, Key, putKey, putValue, putMore, text}
@@ -23,6 +22,7 @@ use Rattle.scan.specs.Places.{past-blanks, past-key}
 use Rattle.scan.specs.Scans.{EndsBlanks, EndsScalar, NameAt, EntersItem, kindIf}
 use Rattle.scan.specs.Shape.{starts}
 use Rattle.scan.specs.ShapeLaws.{solid-value, starts-value, stopped-end}
+use Rattle.automaton.specs.Start.{start-none, start-some}
 use Rattle.automaton.specs.State.{State, next, start}
 use Rattle.automaton.specs.Tally.{Tally, raised, tallied, fresh}
 use Rattle.automaton.specs.Halves.{endPair, finish, waiting, begin}
@@ -33,7 +33,7 @@ use Rattle.walk.specs.AheadLaws.{items-inside, no-items, first-item, item-value
 use Rattle.walk.specs.AheadLaws.{value-stopped, key-solid, item-passed, more-inside, no-more, next-item}
 use Rattle.walk.specs.ValueLaws.{scalar-passed, container-entered}
 use Rattle.walk.specs.Walks.{Walks}
-use Rattle.plain.specs.Plain.{Starts, EntersChild, WalksValue, WalksItems}
+use Rattle.plain.specs.Plain.{RootState, EntersChild, WalksValue, WalksItems}
 
 -- a state by its three parts
 abbrev state : ℕ → Bool → ℕ → State
@@ -41,21 +41,11 @@ state m p k = record { marks = m; picked = p; frames = k }
 
 -- the root
 
-number-none : (n : ℕ) (f : ℕ → Bool) → ((i : ℕ) → f i ≡ false) → number n f ≡ 0
-unfolding number digit
-number-none zero f h = refl
-number-none (suc n) f h = rw (number-none n (λ i. f (suc i)) (λ i. h (suc i)), h 0)
+pub starts-none : (n : ℕ) → n ≡ 0 → RootState n (state 0 true 0)
+starts-none n e = record { no-frames = refl; starts = λ x h. sym (start-none x (h ∙ e)) }
 
-pub starts-none : (n : ℕ) → n ≡ 0 → Starts n (state 0 true 0)
-unfolding start number
-starts-none n e = record { no-frames = refl; starts = λ x h. ap (λ (k : ℕ). state (number k (λ i. eqb i 0)) (eqb k 0) 0) (sym e ∙ sym h) }
-
-pub starts-some : (n : ℕ) → (n ≡ 0 → ⊥) → Starts n (state 1 false 0)
-unfolding start number digit
-starts-some zero f = absurd (f refl)
-starts-some (suc n) f =
-    let z : number n (λ i. eqb (suc i) 0) ≡ 0 = number-none n (λ i. eqb (suc i) 0) eqb·suc-zero in
-    record { no-frames = refl; starts = λ x h. rw (h, z, eqb·suc-zero n) }
+pub starts-some : (n : ℕ) → (n ≡ 0 → ⊥) → RootState n (state 1 false 0)
+starts-some n f = record { no-frames = refl; starts = λ x h. sym (start-some x (λ e. f (sym h ∙ e))) }
 
 -- an item's value
 
@@ -257,7 +247,7 @@ module _ {q : List ℕ} {c : Compiled} {s : List ℕ} {a n : ℕ} {o : Bool} {st
       }
 
 -- the root stands after the blanks before it, with the state that a walk starts with
-pub walks-root : {q : List ℕ} {c : Compiled} {s list after : List ℕ} {a e used peak stop : ℕ} {st : State} → EndsBlanks s 0 a → Starts (c .count) st
+pub walks-root : {q : List ℕ} {c : Compiled} {s list after : List ℕ} {a e used peak stop : ℕ} {st : State} → EndsBlanks s 0 a → RootState (c .count) st
     → WalksValue q c s a maxDepth st (tally list 0 0 0) (tally after used peak stop) e → Walks q c s list after used peak stop
 unfolding text root nodeVisits fresh
 walks-root {s = s} {list = list} {a = a} b r w =

@@ -27,7 +27,7 @@ abbrev pub tallyOf : List ℕ → Counts → Tally
 tallyOf l x = tally l (x .used) (x .peak) (x .stop)
 
 -- the state at the root of a walk for a query of n steps
-pub record Starts (n : ℕ) (st : State) : Type 0 where
+pub record RootState (n : ℕ) (st : State) : Type 0 where
   pub no-frames : st .frames ≡ 0
   pub starts : (x : List Step) → length x ≡ n → st ≡ start x
 

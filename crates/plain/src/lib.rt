@@ -1,4 +1,7 @@
 // The plain walk: it enters each container's values one level down, as the nesting goes, and looks at every node.
+use encoding::CLOSING;
+use encoding::OPENING;
+use json::MAX_DEPTH;
 use pairs::Counts;
 use query::Compiled;
 ghost use Prim.Native.Nat.{_+_, _≤_, _<_};
@@ -7,16 +10,9 @@ ghost use Rattle.encoding.specs.ClassTable.{ClassTable};
 ghost use Rattle.json.specs.Verdict.{maxBytes, maxDepth};
 ghost use Rattle.marks.specs.Advances.{Fits, Bounds};
 ghost use Rattle.walk.specs.Walks.{Walks};
-ghost use Rattle.plain.specs.Plain.{stateOf, tallyOf, Starts, EntersChild, WalksValue, WalksItems};
+ghost use Rattle.plain.specs.Plain.{stateOf, tallyOf, RootState, EntersChild, WalksValue, WalksItems};
 
-// The levels that a record may nest.
-const MAX_DEPTH: usize = 512;
-
-// The classes of brackets, the bracket that opens an object, and the byte between two items.
-const OPENING: u8 = 1;
-
-const CLOSING: u8 = 2;
-
+// The bracket that opens an object, and the byte between two items.
 const OBJECT: u8 = b'{';
 
 const COMMA: u8 = b',';
@@ -42,7 +38,7 @@ struct Child {
 
 // The state of the root for a query of `count` steps: mark 0 where there is a step, picked out where there is none.
 fn root_state(count: usize) -> State
-    ensures { λ r. ⌜ Starts count (stateOf r) ⌝ }
+    ensures { λ r. ⌜ RootState count (stateOf r) ⌝ }
 {
     if count == 0 {
         return State {

@@ -23,6 +23,17 @@ abbrev pub firstBytes : List Span → List ℕ
 firstBytes xs = map (λ x. x .first) xs
 
 module _ (q : List Step) where
+  -- each picked node has one pair, so first bytes rise as they do among the visits
+  spans-rising : (a e : ℕ) (vs : List (Visit Way)) → Rises a (firsts vs) e → Rises a (firstBytes (pickedSpans q vs)) e
+  unfolding pickedSpans spanIf
+  spans-rising a e [] r = r
+  spans-rising a e (v ∷ vs) r = go (picks q (v .state)) (spans-rising (suc (v .node .first)) e vs (r .1))
+    where
+      go : (b : Bool) → Rises (suc (v .node .first)) (firstBytes (pickedSpans q vs)) e
+          → Rises a (firstBytes (spanIf b (v .node) (pickedSpans q vs))) e
+      go true rest = (r .0, rest)
+      go false rest = rises-lower a (suc (v .node .first)) e (firstBytes (pickedSpans q vs)) (omega (arith, r .0)) rest
+
   -- a visited node with this pair is picked out
   abbrev Chosen : Span → List (Visit Way) → Type 0
   Chosen x vs = (v : Visit Way) × List·Memᴰ v vs × (picks q (v .state) ≡ true) × (spanOf (v .node) ≡ x)
@@ -63,16 +74,6 @@ module _ (q : List Step) where
       go (inl h) rest =
           taken (picks q (u .state)) (ap (λ (z : Visit Way). picks q (z .state)) (sym h) ∙ e) (sym p ∙ ap (λ (z : Visit Way). spanOf (z .node)) h)
       go (inr h) rest = later (picks q (u .state)) (rest h)
-
-  spans-rising : (a e : ℕ) (vs : List (Visit Way)) → Rises a (firsts vs) e → Rises a (firstBytes (pickedSpans q vs)) e
-  unfolding pickedSpans spanIf
-  spans-rising a e [] r = r
-  spans-rising a e (v ∷ vs) r = go (picks q (v .state)) (spans-rising (suc (v .node .first)) e vs (r .1))
-    where
-      go : (b : Bool) → Rises (suc (v .node .first)) (firstBytes (pickedSpans q vs)) e
-          → Rises a (firstBytes (spanIf b (v .node) (pickedSpans q vs))) e
-      go true rest = (r .0, rest)
-      go false rest = rises-lower a (suc (v .node .first)) e (firstBytes (pickedSpans q vs)) (omega (arith, r .0)) rest
 
 -- document 01, "The part of RFC 9535" and its departures: the pairs listed for a record and a query
 pub record EachPickedOnce (t : Tree) (q : List Step) : Type 0 where

@@ -1,9 +1,9 @@
 -- After blanks stands a comma, before an item, or else the closing bracket of the innermost container, whose pair and frame go. Assumes nothing.
 use mathlib.Core.Bool.{true≢false}
 use native.Mathlib.Omega.{arith}
-use Rattle.jumping.proofs.Frames.{pops-few}
+use Rattle.pile.specs.PileLaws.{pops-few}
 use Rattle.jumping.proofs.Items.{past-inside, past-comma, past-closed}
-use Rattle.jumping.proofs.Values.{onward-lost, onward-passed, lost-farther, passed-farther, due-passed}
+use Rattle.pile.specs.DueLaws.{onward-lost, onward-passed, lost-farther, passed-farther, due-passed}
 use borrow.Author.Needs.{needs}
 use Rattle.jumping.proofs.past.Statement.{statement}
 use Rattle.jumping.proofs.past.Tie as tie

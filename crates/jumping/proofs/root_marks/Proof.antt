@@ -7,7 +7,7 @@ returns : tie.Need-returns
 returns c = roots-none (c .if1 .taken)
 
 returns-2 : tie.Need-returns-2
-returns-2 c = roots-some _ (c .if1 .left)
+returns-2 c = roots-some (c .if1 .left)
 
 pub root-marks-spec : {M : Type 1} → statement M
 root-marks-spec = tie.close (tie.spec returns returns-2)

@@ -3,9 +3,9 @@
 use mathlib.Core.Path.{refl, _∙_}
 use lib.ListN.{length}
 use Rattle.leap.specs.Passing.{Kept}
-use Rattle.jumping.specs.Pile.{pile}
+use Rattle.pile.specs.Pile.{pile}
 use Rattle.jumping.specs.Turns.{turnsLeft}
-use Rattle.jumping.proofs.Frames.{clear-sized}
+use Rattle.pile.specs.PileLaws.{clear-sized}
 use Rattle.jumping.proofs.Root.{Running, running-starts, running-on, walk-ends}
 use borrow.Author.Needs.{needs}
 use Rattle.jumping.proofs.walk_jumping.Statement.{statement}

@@ -1,6 +1,6 @@
 -- The bits of the child's marks are those of its next marks, cut to the number of steps; the last of them says whether it is picked out.
 -- Assumes nothing.
-use Rattle.marks.proofs.Marks.{advances-none, mask-positive, mask-fits, advances}
+use Rattle.marks.proofs.NextMarks.{advances-none, mask-positive, mask-fits, advances}
 use borrow.Author.Needs.{needs}
 use Rattle.marks.proofs.advance.Statement.{statement}
 use Rattle.marks.proofs.advance.Tie as tie

@@ -1,7 +1,7 @@
 -- A step takes an element by `*` alone, and a member by `*` or by its name; where no step with a name has a mark, no name is looked at.
 -- Assumes nothing.
 use borrow.Author.Tests.{not-true, not-false}
-use Rattle.marks.proofs.Marks.{taken-element, taken-every, taken-named}
+use Rattle.marks.proofs.NextMarks.{taken-element, taken-every, taken-named}
 use borrow.Author.Needs.{needs}
 use Rattle.marks.proofs.taken.Statement.{statement}
 use Rattle.marks.proofs.taken.Tie as tie

@@ -13,38 +13,22 @@ sub-pair c = search needs
 returns-2 : tie.Need-returns-2
 returns-2 c = ends-out _ _ _ (c .before .if1 .left) (c .if2 .taken)
 
-mul-second : tie.Need-mul-second
-mul-second c = search needs
+mul-write : tie.Need-mul-write
+mul-write c = search needs
 
-add-second : tie.Need-add-second
-add-second c = search needs
+add-write : tie.Need-add-write
+add-write c = search needs
 
-cast-list : tie.Need-cast-list
-cast-list c = search needs
-
-mul-list : tie.Need-mul-list
-mul-list c = search needs
-
-slice-write-list : tie.Need-slice-write-list
-slice-write-list c = search needs
+write-requires : tie.Need-write-requires
+write-requires c κs = search needs
 
 same-length : tie.Need-same-length
 same-length c = search needs
 
 returns-3 : tie.Need-returns-3
-returns-3 c = ends-in _ _ _ (c .before .if1 .left)
+returns-3 c =
+    let at-write = c .before .before in
+    ends-in _ _ _ (at-write .before .before .before .if1 .left) (at-write .write .ensures)
 
 pub finish-spec : {M : Type 1} → statement M
-finish-spec =
-    tie.close
-    (tie.spec
-    returns
-    sub-pair
-    returns-2
-    mul-second
-    add-second
-    cast-list
-    mul-list
-    slice-write-list
-    same-length
-    returns-3)
+finish-spec = tie.close (tie.spec returns sub-pair returns-2 mul-write add-write write-requires same-length returns-3)

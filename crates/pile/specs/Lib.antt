@@ -1,0 +1,5 @@
+pub mod Pile
+pub mod Moves
+pub mod Due
+pub mod PileLaws
+pub mod DueLaws
