@@ -20,8 +20,8 @@ use Rattle.answers.specs.FinderIs.{finder-says-only, finds-say, reader-part, re
 use Rattle.answers.specs.FinderSays.{FinderSays, recordRefused, noValue, found, nothing}
 use Rattle.answers.specs.Within.{RecordIs, record-is-taken, record-tree}
 use Rattle.validate.specs.Checks.{Answers}
-use Rattle.find.specs.Seeks.{FindsFrom}
-use Rattle.find.proofs.Ends.{none-found}
+use Rattle.seek.specs.Seeks.{FindsFrom}
+use Rattle.seek.specs.EndLaws.{none-found}
 
 -- the record is taken
 pub record-is : {s : List ℕ} {g p : ℕ} → Answers (recordVerdict s) g p → g ≡ 0 → (t : Tree) × RecordIs s t

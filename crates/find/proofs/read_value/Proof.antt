@@ -12,7 +12,7 @@ slice-aggregate-result : tie.Need-slice-aggregate-result
 slice-aggregate-result c = search needs
 
 returns : tie.Need-returns
-returns c = part-empty _ _ (c .before .before .before .find-value .ensures) (c .before .if1 .taken)
+returns c = part-empty _ _ (c .before .before .before .find-value .ensures) (λ e. omega (arith, c .before .if1 .taken))
 
 sub-result : tie.Need-sub-result
 sub-result c = found-inside _ _ (c .before .before .find-value .ensures) (c .if1 .left) .0
