@@ -1,4 +1,5 @@
 -- `find::find_value` meets its contract: the check of the record decides first, and then the descent. Assumes nothing.
+use native.Mathlib.Omega.{arith}
 use Rattle.find.proofs.Answered.{finds-refused, record-is, finds-none, finds-end}
 use borrow.Author.Needs.{needs}
 use Rattle.find.proofs.find_value.Statement.{statement}
@@ -8,7 +9,7 @@ check-record-requires : tie.Need-check-record-requires
 check-record-requires c κs = search needs
 
 returns : tie.Need-returns
-returns c = finds-refused _ _ (c .before .before .check-record .ensures) (c .if1 .taken)
+returns c = finds-refused _ _ (c .before .before .check-record .ensures) (λ e. omega (arith, c .if1 .taken))
 
 classes-requires : tie.Need-classes-requires
 classes-requires c κs = search needs

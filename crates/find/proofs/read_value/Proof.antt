@@ -14,7 +14,7 @@ slice-aggregate-result c = search needs
 
 returns : tie.Need-returns
 returns c =
-    let (start, part) = part-empty _ _ (c .before .before .before .find-value .ensures) (c .before .if1 .taken) in
+    let (start, part) = part-empty _ _ (c .before .before .before .find-value .ensures) (λ e. omega (arith, c .before .if1 .taken)) in
     (part, record { block-is = refl; offset-is = rw (← start) (omega arith) })
 
 sub-result : tie.Need-sub-result

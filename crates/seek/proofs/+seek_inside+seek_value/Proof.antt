@@ -4,24 +4,24 @@ use borrow.Author.Needs.{needs}
 use Prim.Native.Nat.{ℕ, _+_, _<_}
 use mathlib.Core.Path.{sym, _∙_}
 use native.Mathlib.Omega.{arith}
-use Rattle.find.proofs.Descent.{seeks-there, seeks-behind, seeks-outside, seeks-deeper, seeks-scalar, seeks-below}
-use Rattle.find.proofs.Turns.{turnsLeft, Going, going-first, going-left, going-found, going-on, going-falls}
+use Rattle.seek.proofs.Descent.{seeks-there, seeks-behind, seeks-outside, seeks-deeper, seeks-scalar, seeks-below}
+use Rattle.seek.proofs.Turns.{turnsLeft, Going, going-first, going-left, going-found, going-on, going-falls}
 use borrow.Fn.Kinds.{In}
 use borrow.Fn.PlainCycle.{Measures, is, falls, and}
-use Rattle.find.proofs.seek_inside.Reads as seek-inside
-use Rattle.find.proofs.seek_inside.Kinds as seek-inside-kinds
-use Rattle.find.proofs.+seek_inside+seek_value.Lts-seek_inside as seek-inside-lts
-use Rattle.find.proofs.seek_value.Reads as seek-value
-use Rattle.find.proofs.seek_value.Kinds as seek-value-kinds
-use Rattle.find.proofs.+seek_inside+seek_value.Lts-seek_value as seek-value-lts
+use Rattle.seek.proofs.seek_inside.Reads as seek-inside
+use Rattle.seek.proofs.seek_inside.Kinds as seek-inside-kinds
+use Rattle.seek.proofs.+seek_inside+seek_value.Lts-seek_inside as seek-inside-lts
+use Rattle.seek.proofs.seek_value.Reads as seek-value
+use Rattle.seek.proofs.seek_value.Kinds as seek-value-kinds
+use Rattle.seek.proofs.+seek_inside+seek_value.Lts-seek_value as seek-value-lts
 use Rattle.encoding.proofs.class.Reads as class-reads
-use Rattle.find.proofs.first_item.Reads as first-item-reads
-use Rattle.find.proofs.next_item.Reads as next-item-reads
-use Rattle.find.proofs.value_end.Reads as value-end-reads
+use Rattle.seek.proofs.first_item.Reads as first-item-reads
+use Rattle.seek.proofs.next_item.Reads as next-item-reads
+use Rattle.seek.proofs.value_end.Reads as value-end-reads
 use Rattle.scan.proofs.enter_item.Reads as enter-item-reads
 use Rattle.scan.proofs.scalar_end.Reads as scalar-end-reads
-use Rattle.find.proofs.+seek_inside+seek_value.{statement}
-use Rattle.find.proofs.+seek_inside+seek_value.Tie.{close}
+use Rattle.seek.proofs.+seek_inside+seek_value.{statement}
+use Rattle.seek.proofs.+seek_inside+seek_value.Tie.{close}
 
 -- the measures: twice the levels left, and one more for items
 abbrev inside-levels : Measures 2 seek-inside-kinds.ps ℕ

@@ -1,8 +1,8 @@
 -- `find::next_item` meets its contract: behind the blanks stands a comma or the closing bracket. Assumes nothing.
-use Rattle.find.proofs.Items.{next-outside, next-ahead, next-closed}
+use Rattle.seek.proofs.Items.{next-outside, next-ahead, next-closed}
 use borrow.Author.Needs.{needs}
-use Rattle.find.proofs.next_item.Statement.{statement}
-use Rattle.find.proofs.next_item.Tie as tie
+use Rattle.seek.proofs.next_item.Statement.{statement}
+use Rattle.seek.proofs.next_item.Tie as tie
 
 skip-blanks-requires : tie.Need-skip-blanks-requires
 skip-blanks-requires c κs = search needs

@@ -17,9 +17,9 @@ use Rattle.scan.specs.Places.{head-of, past-blanks}
 use Rattle.scan.specs.Scans.{kindIf, EndsBlanks, EndsScalar}
 use Rattle.scan.specs.ShapeLaws.{solid-value, stopped-end}
 use Rattle.walk.specs.ValueLaws.{opening-is}
-use Rattle.find.specs.Seeks.{endOrZero, EndsValue, Seeks, SeeksValue, SeeksInside, FindsFrom}
-use Rattle.find.proofs.Ends.{value-behind, value-there, scalar-other, container-other}
-use Rattle.find.proofs.Values.{IsContainer, holds, value-inside, is-container, is-scalar}
+use Rattle.seek.specs.Seeks.{endOrZero, EndsValue, Seeks, SeeksValue, SeeksInside, FindsFrom}
+use Rattle.seek.specs.EndLaws.{value-behind, value-there, scalar-other, container-other}
+use Rattle.seek.proofs.Values.{IsContainer, holds, value-inside, is-container, is-scalar}
 
 module _ (s : List ℕ) (o a n : ℕ) where
   pub seeks-there : (e : ℕ) → a ≡ o → EndsValue s a e → SeeksValue s o a n e e

@@ -11,8 +11,8 @@ use Rattle.select.specs.Visits.{Way, step, itemsVisits}
 use Rattle.scan.specs.Scans.{kindIf, EntersItem}
 use Rattle.scan.specs.ShapeLaws.{solid-value}
 use Rattle.walk.specs.Ahead.{valueAt}
-use Rattle.find.specs.Seeks.{endOrZero, FirstItem, NextItem, SeeksValue, SeeksInside}
-use Rattle.find.proofs.Inside.{ItemAhead, Turn, first-turn, next-turn, item-found, item-passed}
+use Rattle.seek.specs.Seeks.{endOrZero, FirstItem, NextItem, SeeksValue, SeeksInside}
+use Rattle.seek.proofs.Inside.{ItemAhead, Turn, first-turn, next-turn, item-found, item-passed}
 
 -- how far it is to the end of the record, with one turn more where an item is ahead
 abbrev pub turnsLeft : List ℕ → Bool → ℕ → ℕ

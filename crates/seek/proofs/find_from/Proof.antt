@@ -1,8 +1,8 @@
 -- `find::find_from` meets its contract: behind the first blanks stands the root, and every value is the root or below it. Assumes nothing.
 use borrow.Author.Needs.{needs}
-use Rattle.find.proofs.Descent.{seeks-root}
-use Rattle.find.proofs.find_from.Statement.{statement}
-use Rattle.find.proofs.find_from.Tie as tie
+use Rattle.seek.proofs.Descent.{seeks-root}
+use Rattle.seek.proofs.find_from.Statement.{statement}
+use Rattle.seek.proofs.find_from.Tie as tie
 
 skip-blanks-requires : tie.Need-skip-blanks-requires
 skip-blanks-requires c κs = search needs

@@ -18,8 +18,8 @@ use Rattle.scan.specs.Places.{head-of, past-blanks, past-key, past-value}
 use Rattle.scan.specs.ShapeLaws.{solid-value, solid-key, starts-value, starts-key, stopped-more}
 use Rattle.walk.specs.Ahead.{valueAt}
 use Rattle.walk.specs.AheadLaws.{item-length}
-use Rattle.find.specs.Seeks.{endOrZero, FirstItem, NextItem, Seeks, SeeksValue}
-use Rattle.find.proofs.Ends.{found-first, found-second}
+use Rattle.seek.specs.Seeks.{endOrZero, FirstItem, NextItem, Seeks, SeeksValue}
+use Rattle.seek.specs.EndLaws.{found-first, found-second}
 
 -- in a container of the kind k whose values nest at most n deep, with rest after it: goal is the end that is looked for, or 0, and end
 -- the place after the container

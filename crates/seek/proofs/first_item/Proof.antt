@@ -1,9 +1,9 @@
 -- `find::first_item` meets its contract: behind the blanks stands the closing bracket or an item. Assumes nothing.
 use mathlib.Core.Path.{sym, _∙_}
-use Rattle.find.proofs.Items.{first-outside, first-closed, first-ahead}
+use Rattle.seek.proofs.Items.{first-outside, first-closed, first-ahead}
 use borrow.Author.Needs.{needs}
-use Rattle.find.proofs.first_item.Statement.{statement}
-use Rattle.find.proofs.first_item.Tie as tie
+use Rattle.seek.proofs.first_item.Statement.{statement}
+use Rattle.seek.proofs.first_item.Tie as tie
 
 skip-blanks-requires : tie.Need-skip-blanks-requires
 skip-blanks-requires c κs = search needs

@@ -14,7 +14,7 @@ use Rattle.scan.specs.Places.{head-of}
 use Rattle.scan.specs.Scans.{IsScalar, EndsScalar}
 use Rattle.leap.specs.Brackets.{Leaves}
 use Rattle.walk.specs.ValueLaws.{opening-class, not-literal, not-number, not-string}
-use Rattle.find.specs.Seeks.{EndsValue}
+use Rattle.seek.specs.Seeks.{EndsValue}
 
 pub data IsContainer : Value → Type 0 where
   holds : (k : Kind) (is : Items k) → IsContainer (G.container k is)

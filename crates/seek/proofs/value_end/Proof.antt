@@ -1,9 +1,9 @@
 -- `find::value_end` meets its contract: the class of the first byte tells which scanner passes the value. Assumes nothing.
 use mathlib.Core.Path.{sym, _∙_}
-use Rattle.find.proofs.Values.{ends-outside, ends-scalar, ends-container}
+use Rattle.seek.proofs.Values.{ends-outside, ends-scalar, ends-container}
 use borrow.Author.Needs.{needs}
-use Rattle.find.proofs.value_end.Statement.{statement}
-use Rattle.find.proofs.value_end.Tie as tie
+use Rattle.seek.proofs.value_end.Statement.{statement}
+use Rattle.seek.proofs.value_end.Tie as tie
 
 returns : tie.Need-returns
 returns c = ends-outside _ _ (c .before .before .pre .1 .0) (c .if1 .taken)

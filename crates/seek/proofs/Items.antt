@@ -13,7 +13,7 @@ use Rattle.scan.specs.Scans.{EndsBlanks}
 use Rattle.scan.specs.Shape.{solid, starts}
 use Rattle.scan.specs.ShapeLaws.{solid-comma, solid-closing}
 use Rattle.walk.specs.AheadLaws.{starts-at, closing-class, closing-comma}
-use Rattle.find.specs.Seeks.{FirstItem, NextItem}
+use Rattle.seek.specs.Seeks.{FirstItem, NextItem}
 
 module _ (s : List ℕ) (a c : ℕ) (blanks : EndsBlanks s a c) where
   -- what stands behind the blanks stands at c

@@ -15,7 +15,7 @@ use Rattle.select.specs.Visits.{Visit, Way, step, visit, visits, itemsVisits, n
 use Rattle.select.specs.Order.{Rises, firsts, visits-rise, first-before-end}
 use Rattle.answers.specs.Finder.{endAmong, orZero}
 use Rattle.scan.specs.Scans.{IsScalar}
-use Rattle.find.specs.Seeks.{endOrZero}
+use Rattle.seek.specs.Seeks.{endOrZero}
 
 module _ (o : ℕ) where
   -- one node before others, by whether it begins at the offset

@@ -1,0 +1,5 @@
+pub mod Descent
+pub mod Inside
+pub mod Items
+pub mod Turns
+pub mod Values

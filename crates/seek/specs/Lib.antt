@@ -1,0 +1,2 @@
+pub mod Seeks
+pub mod EndLaws
