@@ -19,7 +19,7 @@ use Rattle.query.specs.Machine as M
 use Rattle.query.specs.Machine.{root, done, dead, pick, step}
 use Rattle.query.specs.Read.{Placed, named, Reading, good, bad, reading, stepsRead}
 use Rattle.query.specs.Reader
-use Rattle.query.specs.Reader.{readPlace, placedAt, Bounded, push, StepAt}
+use Rattle.query.specs.Reader.{readPlace, placedAt, push, StepTaken, StepAt}
 use Rattle.query.specs.Verdict.{maxQueryBytes, maxSteps, stepsIn, placeOf, judged, queryVerdict}
 use Rattle.query.specs.Says.{short-enough, too-long, few, too-many}
 use Rattle.query.specs.Holds.{Holds, noSteps}
@@ -41,23 +41,17 @@ overflow-push : (place : ℕ) (x : Placed) (r : Reading) → overflow place (pus
 overflow-push place x (good a) = refl
 overflow-push place x (bad p) = refl
 
--- what a step that was read says of the places
-pub record StepTaken (q : List ℕ) (i : ℕ) (f : Found) (m : ℕ) : Type 0 where
-  pub bounded : Bounded q f
-  pub on : i < m
-  pub within : m ≤ length q
-  pub reads : reading done i (drop i q) ≡ push (placedAt q f) (reading done m (drop m q))
-
+-- what a step that was read says
 pub step-taken : {q : List ℕ} {i : ℕ} {r : StepRead} → StepAt q i r → {f : Found} {m : ℕ} → r ≡ Taken f m → StepTaken q i f m
 step-taken {q} {i} s e = go (subst (StepAt q i) e s)
   where
     go : {f : Found} {m : ℕ} → StepAt q i (Taken f m) → StepTaken q i f m
-    go (Reader.StepAt.taken f m b h w g) = record { bounded = b; on = h; within = w; reads = g }
+    go (Reader.StepAt.taken f m t) = t
 
 -- and what a refusal says
 step-refused : {q : List ℕ} {i : ℕ} {r : StepRead} → StepAt q i r → tagOf the-type r ≡ 1 → reading done i (drop i q) ≡ bad (readPlace r)
-step-refused (Reader.StepAt.taken f m b h w g) t = absurd (omega arith)
-step-refused (Reader.StepAt.refused p g) t = g
+step-refused (Reader.StepAt.taken f m s) t = absurd (omega arith)
+step-refused (Reader.StepAt.refused p s) t = s .reads
 
 -- nothing is left to read
 nothing-left : (q : List ℕ) (i : ℕ) → length q ≤ i → reading done i (drop i q) ≡ good (named [] [])

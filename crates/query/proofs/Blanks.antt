@@ -1,17 +1,19 @@
--- Blanks: a blank leaves each control state that takes blanks as it is, so the reading goes on from behind it. Assumes nothing.
-use mathlib.Core.Path.{_≡_, refl, ap, subst, _∙_}
-use mathlib.Core.List.{List}
+-- Blanks: each one passed is one more of those that stand there; and a control state that takes blanks stays as it is, so the reading
+-- goes on from behind them. Assumes nothing.
+use mathlib.Core.Path.{_≡_, refl, ap, sym, subst, _∙_}
+use mathlib.Core.List.{List, [], _∷_, _++_}
 use mathlib.Core.Bool.{Bool, true, false}
 use Prim.Native.Nat.{ℕ, _+_, _≤_, _<_}
 use native.Mathlib.Omega.{arith}
-use lib.ListN.{length, getD, drop}
+use lib.ListN.{length, getD, drop, length-drop}
 use Rattle.encoding.specs.Bytes as B
-use Rattle.encoding.specs.Bytes.{Blank, blankByte}
+use Rattle.encoding.specs.Bytes.{Blank, Blanks, blankByte, putBlanks}
 use Rattle.query.specs.Machine.{Control, at, step}
-use Rattle.query.specs.Read.{reading}
-use Rattle.query.specs.Spell.{blank-gap, blank-opened, blank-closing}
-use Rattle.query.specs.Scans.{BlankIs, blank, Skipped, TakesBlanks, in-gap, in-opened, in-closing}
-use Rattle.query.proofs.At.{kept-at}
+use Rattle.query.specs.Read.{keep, event, reading}
+use Rattle.query.specs.Spell.{moved, reads-blanks}
+use Rattle.query.specs.Append.{blanks-more, length-blanks}
+use Rattle.query.specs.Scans.{BlankIs, blank, Skipped}
+use Rattle.query.proofs.At.{byte-at}
 
 pub not-blank : {b : ℕ} → (b ≡ 0x20 → ⊥) → (b ≡ 0x09 → ⊥) → (b ≡ 0x0A → ⊥) → (b ≡ 0x0D → ⊥) → (x : Blank) → b ≡ blankByte x → ⊥
 not-blank s t f r B.space e = s e
@@ -19,28 +21,40 @@ not-blank s t f r B.tab e = t e
 not-blank s t f r B.feed e = f e
 not-blank s t f r B.return e = r e
 
-module _ (q : List ℕ) (i : ℕ) (h : i < length q) where
-  pub over-blank : (c : Control) → TakesBlanks c → BlankIs (getD q i 0) true → reading c i (drop i q) ≡ reading c (i + 1) (drop (i + 1) q)
-  over-blank c in-gap (blank x e) = kept-at c q i h c (ap (step (at c)) e ∙ blank-gap x) refl
-  over-blank c in-opened (blank x e) = kept-at c q i h c (ap (step (at c)) e ∙ blank-opened x) refl
-  over-blank c in-closing (blank x e) = kept-at c q i h c (ap (step (at c)) e ∙ blank-closing x) refl
+-- how far the blanks reach
+pub blanks-far : {q : List ℕ} {n r : ℕ} (s : Skipped q n r) → n + length (s .stand .0) ≡ r
+blanks-far {q} {n} {r} s =
+    omega (arith, s .from, s .within, length-blanks (s .stand .0) (drop r q), ap length (s .stand .1), length-drop n q, length-drop r q)
+
+-- blanks lead a control state that takes them back to itself
+pub over-blanks : {q : List ℕ} {n r : ℕ} → Skipped q n r → (c : Control) → ((b : Blank) → step (at c) (blankByte b) ≡ at c) → event c c ≡ keep →
+    reading c n (drop n q) ≡ reading c r (drop r q)
+over-blanks {q} {n} {r} s c f e =
+    let w : Blanks = s .stand .0 in
+    ap (reading c n) (sym (s .stand .1)) ∙ reads-blanks c f e w n (drop r q) ∙ moved c (n + length w) r (drop r q) (blanks-far s)
 
 -- from n up to i stand blanks
-pub record SameFrom (q : List ℕ) (n i : ℕ) : Type 0 where
+pub record BlanksUpTo (q : List ℕ) (n i : ℕ) : Type 0 where
   pub from : n ≤ i
   pub within : i ≤ length q
-  pub over : (c : Control) → TakesBlanks c → reading c n (drop n q) ≡ reading c i (drop i q)
+  pub stand : (w : Blanks) × (putBlanks w (drop i q) ≡ drop n q)
 
-pub no-blanks : {q : List ℕ} {n : ℕ} → n ≤ length q → SameFrom q n n
-no-blanks h = record { from = omega arith; within = h; over = λ c t. refl }
+pub no-blanks : {q : List ℕ} {n : ℕ} → n ≤ length q → BlanksUpTo q n n
+unfolding putBlanks
+no-blanks h = record { from = omega arith; within = h; stand = ([], refl) }
 
-pub one-more : {q : List ℕ} {n i : ℕ} {x : Bool} → SameFrom q n i → i < length q → BlankIs (getD q i 0) x → x ≡ true → SameFrom q n (i + 1)
-one-more {q} {n} {i} s h b e =
-    record { from = omega arith; within = omega arith; over = λ c t. s .over c t ∙ over-blank q i h c t (subst (BlankIs (getD q i 0)) e b) }
+pub one-more : {q : List ℕ} {n i : ℕ} {x : Bool} → BlanksUpTo q n i → i < length q → BlankIs (getD q i 0) x → x ≡ true → BlanksUpTo q n (i + 1)
+one-more {q} {n} {i} s h b e = record { from = omega arith; within = omega arith; stand = go (subst (BlankIs (getD q i 0)) e b) }
+  where
+    go : BlankIs (getD q i 0) true → (w : Blanks) × (putBlanks w (drop (i + 1) q) ≡ drop n q)
+    go (blank x f) =
+        let w : Blanks = s .stand .0 in
+        let here : blankByte x ∷ drop (i + 1) q ≡ drop i q = ap (λ (y : ℕ). y ∷ drop (i + 1) q) (sym f) ∙ sym (byte-at q i h) in
+        (w ++ x ∷ [], blanks-more w x (drop (i + 1) q) ∙ ap (putBlanks w) here ∙ s .stand .1)
 
-pub skipped : {q : List ℕ} {n i : ℕ} {x : Bool} → SameFrom q n i → BlankIs (getD q i 0) x → x ≡ false → Skipped q n i
+pub skipped : {q : List ℕ} {n i : ℕ} {x : Bool} → BlanksUpTo q n i → BlankIs (getD q i 0) x → x ≡ false → Skipped q n i
 skipped {q} {n} {i} s b e =
-    record { from = s .from; within = s .within; over = s .over; next = λ h. subst (BlankIs (getD q i 0)) e b }
+    record { from = s .from; within = s .within; stand = s .stand; next = λ h. subst (BlankIs (getD q i 0)) e b }
 
-pub all-blanks : {q : List ℕ} {n i : ℕ} → SameFrom q n i → length q ≤ i → Skipped q n i
-all-blanks s h = record { from = s .from; within = s .within; over = s .over; next = λ g. absurd (omega arith) }
+pub all-blanks : {q : List ℕ} {n i : ℕ} → BlanksUpTo q n i → length q ≤ i → Skipped q n i
+all-blanks s h = record { from = s .from; within = s .within; stand = s .stand; next = λ g. absurd (omega arith) }

@@ -1,20 +1,21 @@
 -- Names: which bytes below 80 go on in a name, end it, or are dead, from the machine's tables; and code points from 80 on by their rows.
 -- Assumes nothing.
 use mathlib.Core.Path.{_≡_, refl, ap, sym, subst, _∙_}
-use mathlib.Core.List.{List, [], _∷_}
+use mathlib.Core.List.{List, [], _∷_, _++_}
 use mathlib.Core.Bool.{Bool, true, false, _&&_}
 use Prim.Native.Nat.{ℕ, _+_, _≤_, _<_}
 use native.Mathlib.Omega.{arith}
 use lib.Dec.{T, leb}
 use borrow.Author.Tests.{leb-true, leb-false}
 use lib.ListN.{length, getD, drop, drop-of-length-le}
-use lib.Seq.{slice}
+use lib.Seq.{slice, getD-drop}
 use Rattle.encoding.specs.BytesLaws as L
 use Rattle.encoding.specs.CodePoint as C
 use Rattle.encoding.specs.CodePoint.{Scanned}
-use Rattle.encoding.specs.Utf8At.{reads-at, scanned-within, scanned-moved}
+use Rattle.encoding.specs.Utf8At.{reads-at, scanned-within, scanned-whole, scanned-moved}
 use Rattle.query.specs.Grammar as G
-use Rattle.query.specs.Grammar.{Depth, Quote, quoteByte}
+use Rattle.query.specs.Grammar.{First, Later, Char, Depth, Quote, quoteByte, putFirst, putLater, putLaters, putChar, putChars}
+use Rattle.query.specs.Append.{laters-more, chars-more}
 use Rattle.query.specs.Machine as M
 use Rattle.query.specs.Machine.{Control, done, inside, short, quoted, dead, Row, only, range, firstRows, beginRows, dotRow, pick, step}
 use Rattle.query.specs.Read.{letter, event, reading}
@@ -49,6 +50,14 @@ name-first d (digit l h) f = absurd (f l h)
 name-first d (upper l h) f = leads (M.dotted d) l h (M.at (inside short)) refl
 name-first d (underscore e) f = leads (M.dotted d) {lo = 0x5F} {hi = 0x5F} (omega arith) (omega arith) (M.at (inside short)) refl
 name-first d (lower l h) f = leads (M.dotted d) l h (M.at (inside short)) refl
+
+-- and the character of the grammar that it is
+name-stands : {b : ℕ} → NameByteIs b true → (s : List ℕ) → (c : Later) × (putLater c s ≡ b ∷ s)
+unfolding putLater L.make
+name-stands {b} (digit l h) s = (G.digit (L.make b l h), refl)
+name-stands {b} (upper l h) s = (G.first (G.upper (L.make b l h)), refl)
+name-stands (underscore e) s = (G.first G.underscore, ap (λ (x : ℕ). x ∷ s) (sym e))
+name-stands {b} (lower l h) s = (G.first (G.lower (L.make b l h)), refl)
 
 -- another byte below 80 is in no row for the first byte of a shorthand name, nor in that for digits
 no-first : {b : ℕ} → NameByteIs b false → b < 0x80 → (rs : List Row) → pick (firstRows rs) b ≡ pick rs b
@@ -103,8 +112,10 @@ module _ (q : List ℕ) (i : ℕ) (h : i < length q) where
 
   -- the three answers for a character of a shorthand name
   pub name-wide : {ok : Bool} {r : ℕ} → 0x80 ≤ getD q i 0 → Scanned C.reading q i ok r → NameChar q i ok r
+  unfolding putLater
   name-wide {ok} {r} w s = record {
     moved = scanned-moves s;
+    stands = λ e. let p = scanned-whole s e in (G.first (First.wide (p .0)), p .1);
     first = λ d n f. wide-reads q (wide-dotted d) h w (reads-at s);
     later = λ e. rw e at (wide-reads q wide-short h w (reads-at s));
     dead = λ e g. rw e at (wide-reads q wide-short h w (reads-at s));
@@ -116,6 +127,7 @@ module _ (q : List ℕ) (i : ℕ) (h : i < length q) where
       let y = subst (NameByteIs (getD q i 0)) e x in
       record {
         moved = went-on;
+        stands = λ z. let c = name-stands y (drop (i + 1) q) in (c .0, c .1 ∙ sym (byte-at q i h));
         first = λ d n f. one-letter (M.dotted d) (inside short) (name-first d y f) refl;
         later = λ z. one-letter (inside short) (inside short) (name-later y) refl;
         dead = λ z. let w : _≡_ {A = ℕ} 0 1 = cc in absurd (omega arith);
@@ -127,6 +139,7 @@ module _ (q : List ℕ) (i : ℕ) (h : i < length q) where
       let y = subst (NameByteIs (getD q i 0)) e x in
       record {
         moved = stayed;
+        stands = λ z. let w : _≡_ {A = ℕ} 0 1 = cc in absurd (omega arith);
         first = λ d n f. stop-at (M.dotted d) q i h (no-name d y w n);
         later = λ z. let w : _≡_ {A = ℕ} 0 1 = cc in absurd (omega arith);
         dead = λ z g. absurd (omega arith);
@@ -141,25 +154,53 @@ module _ (q : List ℕ) (i : ℕ) (h : i < length q) where
 
   -- a digit may not come first
   pub no-first-digit : 0x30 ≤ getD q i 0 → getD q i 0 ≤ 0x39 → FirstChar q i false i
-  no-first-digit l u = record { moved = stayed; first = λ d n. stop-at (M.dotted d) q i h (digit-dies d l u) }
+  no-first-digit l u = record {
+    moved = stayed;
+    stands = λ z. let w : _≡_ {A = ℕ} 0 1 = cc in absurd (omega arith);
+    first = λ d n. stop-at (M.dotted d) q i h (digit-dies d l u);
+  }
+
+byte-of : (q : List ℕ) (i b : ℕ) (s : List ℕ) → b ∷ s ≡ drop i q → getD q i 0 ≡ b
+byte-of q i b s e = ap (λ (n : ℕ). getD q n 0) (omega arith) ∙ sym (getD-drop i q 0 0) ∙ sym (ap (λ (l : List ℕ). getD l 0 0) e)
+
+-- a character of a name that is no digit is a first one
+first-stands : (q : List ℕ) (i r : ℕ) → (0x30 ≤ getD q i 0 → getD q i 0 ≤ 0x39 → ⊥) → (c : Later) → putLater c (drop r q) ≡ drop i q →
+    (x : First) × (putFirst x (drop r q) ≡ drop i q)
+unfolding putLater
+first-stands q i r f (G.first x) e = (x, e)
+first-stands q i r f (G.digit b) e =
+    let z = byte-of q i (b .byte) (drop r q) e in absurd (f (omega (arith, L.from-low b)) (omega (arith, L.to-high b)))
 
 pub first-char : {q : List ℕ} {i : ℕ} {ok : Bool} {r : ℕ} → NameChar q i ok r → (0x30 ≤ getD q i 0 → getD q i 0 ≤ 0x39 → ⊥) → FirstChar q i ok r
-first-char x f = record { moved = x .moved; first = λ d n. x .first d n f }
+first-char {q} {i} {ok} {r} x f =
+    record {
+      moved = x .moved;
+      stands = λ e. first-stands q i r f (x .stands e .0) (x .stands e .1);
+      first = λ d n. x .first d n f;
+    }
 
 -- a shorthand name spelt from n up to i
 pub record ShortSoFar (q : List ℕ) (n i : ℕ) : Type 0 where
   pub from : n < i
   pub within : i ≤ length q
+  pub stands : (x : First) × (cs : List Later) × (putFirst x (putLaters cs (drop i q)) ≡ drop n q)
   pub reads : (d : Depth) → NoName d (getD q n 0) → reading (M.dotted d) n (drop n q) ≡ spelt q (inside short) n true i
 
 pub short-begins : {q : List ℕ} {n : ℕ} {ok : Bool} {i : ℕ} → FirstChar q n ok i → ok ≡ true → ShortSoFar q n i
+unfolding putLaters
 short-begins {q} {n} {ok} {i} x e =
-    record { from = x .moved .on e; within = x .moved .within; reads = λ d f. x .first d f ∙ ap (λ (b : Bool). spelt q (inside short) n b i) e }
+    record {
+      from = x .moved .on e;
+      within = x .moved .within;
+      stands = (x .stands e .0, [], x .stands e .1);
+      reads = λ d f. x .first d f ∙ ap (λ (b : Bool). spelt q (inside short) n b i) e;
+    }
 
 pub short-dead : {q : List ℕ} {n : ℕ} {ok : Bool} {i : ℕ} → FirstChar q n ok i → ok ≡ false → ShortName q n ok i
 short-dead {q} {n} {ok} {i} x e =
     record {
       moved = x .moved;
+      stands = λ z. absurd (subst T (sym z ∙ e) tt);
       reads = λ d f. x .first d f ∙ ap (λ (b : Bool). spelt q (inside short) n b i) e ∙
           ap (λ (b : Bool). spelt q done n b i) (sym e);
     }
@@ -167,9 +208,12 @@ short-dead {q} {n} {ok} {i} x e =
 pub short-goes-on : {q : List ℕ} {n i : ℕ} {ok : Bool} {r : ℕ} → ShortSoFar q n i → NameChar q i ok r → ok ≡ true → ShortSoFar q n r
 short-goes-on {q} {n} {i} {ok} {r} s x e =
     let m = x .moved .on e in
+    let c = x .stands e in
+    let (y, cs, w) = s .stands in
     record {
       from = omega (arith, s .from);
       within = x .moved .within;
+      stands = (y, cs ++ c .0 ∷ [], ap (putFirst y) (laters-more cs (c .0) (drop r q) ∙ ap (putLaters cs) (c .1)) ∙ w);
       reads = λ d f. spelt-join q (M.dotted d) (inside short) (inside short) n i true r (omega (arith, s .from)) (λ z. omega arith)
           (s .reads d f) (x .later e);
     }
@@ -179,6 +223,7 @@ short-ends : {q : List ℕ} {n i : ℕ} → ShortSoFar q n i → reading (inside
 short-ends {q} {n} {i} s e =
     record {
       moved = record { within = s .within; on = λ z. s .from };
+      stands = λ z. s .stands;
       reads = λ d f. s .reads d f ∙ ap (spell (slice n i q)) e;
     }
 
@@ -196,6 +241,7 @@ pub short-wide-dead : {q : List ℕ} {n i : ℕ} {ok : Bool} {r : ℕ} → Short
 short-wide-dead {q} {n} {i} {ok} {r} s x e w =
     record {
       moved = record { within = x .moved .within; on = λ z. let y : _≡_ {A = Bool} true false = cc in absurd (subst T y tt) };
+      stands = λ z. absurd (subst T (sym z ∙ e) tt);
       reads = λ d f.
           spelt-join q (M.dotted d) (inside short) done n i false r (omega (arith, s .from)) (λ z. absurd (subst T (sym z) tt))
           (s .reads d f) (x .dead e w) ∙
@@ -224,6 +270,23 @@ quoted-on G.double b l h f g = go (leb b 0x21) refl (leb b 0x5B) refl
     go false e false k = leads (inside (quoted G.double)) {lo = 0x5D} {hi = 0x7F} (omega (arith, leb-false b 0x5B k)) (omega arith)
         (M.at (inside (quoted G.double))) refl
 
+-- and the character of the grammar that it is
+quoted-stands : (x : Quote) (b : ℕ) → 0x20 ≤ b → b < 0x80 → (b ≡ 0x5C → ⊥) → (b ≡ quoteByte x → ⊥) → (s : List ℕ) → (c : Char x) ×
+    (putChar c s ≡ b ∷ s)
+unfolding putChar L.make
+quoted-stands G.single b l h f g s = go (leb b 0x26) refl (leb b 0x5B) refl
+  where
+    go : (x : Bool) → leb b 0x26 ≡ x → (y : Bool) → leb b 0x5B ≡ y → (c : Char G.single) × (putChar c s ≡ b ∷ s)
+    go true e y k = (G.low (L.make b l (leb-true b 0x26 e)), refl)
+    go false e true k = (G.mid (L.make b (omega (arith, leb-false b 0x26 e)) (leb-true b 0x5B k)), refl)
+    go false e false k = (G.high (L.make b (omega (arith, leb-false b 0x5B k)) (omega arith)), refl)
+quoted-stands G.double b l h f g s = go (leb b 0x21) refl (leb b 0x5B) refl
+  where
+    go : (x : Bool) → leb b 0x21 ≡ x → (y : Bool) → leb b 0x5B ≡ y → (c : Char G.double) × (putChar c s ≡ b ∷ s)
+    go true e y k = (G.low (L.make b l (leb-true b 0x21 e)), refl)
+    go false e true k = (G.mid (L.make b (omega (arith, leb-false b 0x21 e)) (leb-true b 0x5B k)), refl)
+    go false e false k = (G.high (L.make b (omega (arith, leb-false b 0x5B k)) (omega arith)), refl)
+
 control-dies : (x : Quote) {b : ℕ} → b < 0x20 → step (M.at (inside (quoted x))) b ≡ dead
 unfolding landing
 control-dies G.single h = leads (inside (quoted G.single)) {lo = 0} {hi = 0x1F} (omega arith) (omega arith) dead refl
@@ -236,17 +299,31 @@ backslash-dies G.double e = rw e refl
 
 module _ (q : List ℕ) (i : ℕ) (h : i < length q) where
   pub quoted-wide : {ok : Bool} {r : ℕ} → 0x80 ≤ getD q i 0 → Scanned C.reading q i ok r → QuotedChar q i ok r
-  quoted-wide w s = record { moved = scanned-moves q i h s; reads = λ x f. wide-reads q (wide-quoted x) h w (reads-at s) }
+  unfolding putChar
+  quoted-wide w s = record {
+    moved = scanned-moves q i h s;
+    stands = λ e x f. let p = scanned-whole s e in (Char.wide (p .0), p .1);
+    reads = λ x f. wide-reads q (wide-quoted x) h w (reads-at s);
+  }
 
   pub quoted-control : getD q i 0 < 0x20 → QuotedChar q i false i
-  quoted-control w = record { moved = stayed q i h; reads = λ x f. stop-at (inside (quoted x)) q i h (control-dies x w) }
+  quoted-control w = record {
+    moved = stayed q i h;
+    stands = λ e. absurd (subst T (sym e) tt);
+    reads = λ x f. stop-at (inside (quoted x)) q i h (control-dies x w);
+  }
 
   pub quoted-backslash : getD q i 0 ≡ 0x5C → QuotedChar q i false i
-  quoted-backslash w = record { moved = stayed q i h; reads = λ x f. stop-at (inside (quoted x)) q i h (backslash-dies x w) }
+  quoted-backslash w = record {
+    moved = stayed q i h;
+    stands = λ e. absurd (subst T (sym e) tt);
+    reads = λ x f. stop-at (inside (quoted x)) q i h (backslash-dies x w);
+  }
 
   pub quoted-letter : 0x20 ≤ getD q i 0 → getD q i 0 < 0x80 → (getD q i 0 ≡ 0x5C → ⊥) → QuotedChar q i true (i + 1)
   quoted-letter l u n = record {
     moved = went-on q i h;
+    stands = λ e x f. let c = quoted-stands x (getD q i 0) l u n f (drop (i + 1) q) in (c .0, c .1 ∙ sym (byte-at q i h));
     reads = λ x f. one-letter q i h (inside (quoted x)) (inside (quoted x)) (quoted-on x (getD q i 0) l u n f) refl;
   }
 
@@ -254,10 +331,13 @@ module _ (q : List ℕ) (i : ℕ) (h : i < length q) where
 pub record QuotedSoFar (q : List ℕ) (quote n i : ℕ) : Type 0 where
   pub from : n ≤ i
   pub within : i ≤ length q
+  pub stand : (x : Quote) → quote ≡ quoteByte x → (cs : List (Char x)) × (putChars cs (drop i q) ≡ drop n q)
   pub reads : (x : Quote) → quote ≡ quoteByte x → reading (inside (quoted x)) n (drop n q) ≡ spelt q (inside (quoted x)) n true i
 
 pub quoted-begins : {q : List ℕ} {quote n : ℕ} → n ≤ length q → QuotedSoFar q quote n n
-quoted-begins {q} {quote} {n} h = record { from = omega arith; within = h; reads = λ x e. spelt-here q (inside (quoted x)) n }
+unfolding putChars
+quoted-begins {q} {quote} {n} h =
+    record { from = omega arith; within = h; stand = λ x e. ([], refl); reads = λ x e. spelt-here q (inside (quoted x)) n }
 
 pub quoted-goes-on : {q : List ℕ} {quote n i : ℕ} {ok : Bool} {r : ℕ} → QuotedSoFar q quote n i → (getD q i 0 ≡ quote → ⊥) →
     QuotedChar q i ok r → ok ≡ true → QuotedSoFar q quote n r
@@ -266,13 +346,15 @@ quoted-goes-on {q} {quote} {n} {i} {ok} {r} s f x e =
     record {
       from = omega (arith, s .from);
       within = x .moved .within;
+      stand = λ y z. let c = x .stands e y (λ w. f (w ∙ sym z)) in let d = s .stand y z in
+          (d .0 ++ c .0 ∷ [], chars-more (d .0) (c .0) (drop r q) ∙ ap (putChars (d .0)) (c .1) ∙ d .1);
       reads = λ y z.
           spelt-join q (inside (quoted y)) (inside (quoted y)) (inside (quoted y)) n i true r (s .from) (λ w. omega arith) (s .reads y z)
           (x .reads y (λ w. f (w ∙ sym z)) ∙ ap (λ (b : Bool). spelt q (inside (quoted y)) i b r) e);
     }
 
 pub quoted-closes : {q : List ℕ} {quote n i : ℕ} → QuotedSoFar q quote n i → i < length q → getD q i 0 ≡ quote → QuotedName q quote n true i
-quoted-closes s h e = record { within = s .within; closed = λ w. (s .from, h, e); reads = s .reads }
+quoted-closes s h e = record { within = s .within; closed = λ w. (s .from, h, e); stand = λ w. s .stand; reads = s .reads }
 
 pub quoted-dead : {q : List ℕ} {quote n i : ℕ} {ok : Bool} {r : ℕ} → QuotedSoFar q quote n i → (getD q i 0 ≡ quote → ⊥) →
     QuotedChar q i ok r → ok ≡ false → QuotedName q quote n ok r
@@ -280,6 +362,7 @@ quoted-dead {q} {quote} {n} {i} {ok} {r} s f x e =
     record {
       within = x .moved .within;
       closed = λ w. absurd (subst T (sym w ∙ e) tt);
+      stand = λ w. absurd (subst T (sym w ∙ e) tt);
       reads = λ y z.
           spelt-join q (inside (quoted y)) (inside (quoted y)) (inside (quoted y)) n i ok r (s .from) (λ w. absurd (subst T (sym w ∙ e) tt))
           (s .reads y z)
@@ -291,6 +374,7 @@ quoted-open {q} {quote} {n} {i} s h =
     record {
       within = s .within;
       closed = λ w. absurd (subst T (sym w) tt);
+      stand = λ w. absurd (subst T (sym w) tt);
       reads = λ x z.
           spelt-join q (inside (quoted x)) (inside (quoted x)) (inside (quoted x)) n i false i (s .from) (λ w. absurd (subst T (sym w) tt))
           (s .reads x z)

@@ -1,13 +1,13 @@
--- What a scan of a query says: a part of it passed over, and how the reading goes on from there.
+-- What a scan of a query says: the part of the grammar that stands there, with the query from behind it on, and how the reading goes on.
 use mathlib.Core.Path.{_≡_}
 use mathlib.Core.List.{List}
 use mathlib.Core.Bool.{Bool, true, false}
 use Prim.Native.Nat.{ℕ, _≤_, _<_}
 use lib.ListN.{length, getD, drop}
 use lib.Seq.{slice}
-use Rattle.encoding.specs.Bytes.{Blank, blankByte}
-use Rattle.query.specs.Grammar.{Quote, quoteByte, Depth, plain, deep}
-use Rattle.query.specs.Machine.{Control, gap, dotted, opened, closing, inside, short, quoted, done}
+use Rattle.encoding.specs.Bytes.{Blank, Blanks, blankByte, putBlanks}
+use Rattle.query.specs.Grammar.{First, Later, Char, Quote, quoteByte, Depth, plain, deep, putFirst, putLater, putLaters, putChar, putChars}
+use Rattle.query.specs.Machine.{Control, dotted, inside, short, quoted, done}
 use Rattle.query.specs.Read.{Reading, bad, reading}
 use Rattle.query.specs.Spell.{spell}
 
@@ -27,17 +27,11 @@ pub data NameByteIs (b : ℕ) : Bool → Type 0 where
   between-cases : 0x5A < b → (b ≡ 0x5F → ⊥) → b < 0x61 → NameByteIs b false
   above-lower : 0x7A < b → NameByteIs b false
 
--- the control states that blanks leave as they are
-pub data TakesBlanks : Control → Type 0 where
-  in-gap : TakesBlanks gap
-  in-opened : TakesBlanks opened
-  in-closing : TakesBlanks closing
-
 -- from `at` to r stand blanks, and at r none
 pub record Skipped (q : List ℕ) (at r : ℕ) : Type 0 where
   pub from : at ≤ r
   pub within : r ≤ length q
-  pub over : (c : Control) → TakesBlanks c → reading c at (drop at q) ≡ reading c r (drop r q)
+  pub stand : (w : Blanks) × (putBlanks w (drop r q) ≡ drop at q)
   pub next : r < length q → BlankIs (getD q r 0) false
 
 -- ok: letters of a name stand from `at` up to r, where the control state is k; not ok: the byte at r is dead
@@ -62,6 +56,7 @@ pub record Moved (q : List ℕ) (at : ℕ) (ok : Bool) (r : ℕ) : Type 0 where
 -- one character of a shorthand name at `at`; not ok also where a byte below 80 ends the name
 pub record NameChar (q : List ℕ) (at : ℕ) (ok : Bool) (r : ℕ) : Type 0 where
   pub moved : Moved q at ok r
+  pub stands : ok ≡ true → (c : Later) × (putLater c (drop r q) ≡ drop at q)
   pub first : (d : Depth) → NoName d (getD q at 0) → (0x30 ≤ getD q at 0 → getD q at 0 ≤ 0x39 → ⊥) →
       reading (dotted d) at (drop at q) ≡ spelt q (inside short) at ok r
   pub later : ok ≡ true → reading (inside short) at (drop at q) ≡ spelt q (inside short) at true r
@@ -71,20 +66,24 @@ pub record NameChar (q : List ℕ) (at : ℕ) (ok : Bool) (r : ℕ) : Type 0 whe
 -- the first character of a shorthand name
 pub record FirstChar (q : List ℕ) (at : ℕ) (ok : Bool) (r : ℕ) : Type 0 where
   pub moved : Moved q at ok r
+  pub stands : ok ≡ true → (x : First) × (putFirst x (drop r q) ≡ drop at q)
   pub first : (d : Depth) → NoName d (getD q at 0) → reading (dotted d) at (drop at q) ≡ spelt q (inside short) at ok r
 
 -- a whole shorthand name, after which a step is done
 pub record ShortName (q : List ℕ) (at : ℕ) (ok : Bool) (r : ℕ) : Type 0 where
   pub moved : Moved q at ok r
+  pub stands : ok ≡ true → (x : First) × (cs : List Later) × (putFirst x (putLaters cs (drop r q)) ≡ drop at q)
   pub reads : (d : Depth) → NoName d (getD q at 0) → reading (dotted d) at (drop at q) ≡ spelt q done at ok r
 
 -- one character of a quoted name that is not its quote
 pub record QuotedChar (q : List ℕ) (at : ℕ) (ok : Bool) (r : ℕ) : Type 0 where
   pub moved : Moved q at ok r
+  pub stands : ok ≡ true → (x : Quote) → (getD q at 0 ≡ quoteByte x → ⊥) → (c : Char x) × (putChar c (drop r q) ≡ drop at q)
   pub reads : (x : Quote) → (getD q at 0 ≡ quoteByte x → ⊥) → reading (inside (quoted x)) at (drop at q) ≡ spelt q (inside (quoted x)) at ok r
 
 -- the rest of a quoted name, up to its closing quote
 pub record QuotedName (q : List ℕ) (quote at : ℕ) (ok : Bool) (r : ℕ) : Type 0 where
   pub within : r ≤ length q
   pub closed : ok ≡ true → (at ≤ r) × (r < length q) × (getD q r 0 ≡ quote)
+  pub stand : ok ≡ true → (x : Quote) → quote ≡ quoteByte x → (cs : List (Char x)) × (putChars cs (drop r q) ≡ drop at q)
   pub reads : (x : Quote) → quote ≡ quoteByte x → reading (inside (quoted x)) at (drop at q) ≡ spelt q (inside (quoted x)) at ok r

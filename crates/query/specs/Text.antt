@@ -74,7 +74,7 @@ spells-shorthand d x cs =
     (spells-append (M.dotted d) (inside short) (inside short) (putFirst x []) (putLaters cs []) (spells-first (M.dotted d) _ refl refl x)
     (spells-laters cs))
 
-shorthand-append : (x : First) (cs : List Later) (u : List ℕ) → putFirst x (putLaters cs u) ≡ putFirst x (putLaters cs []) ++ u
+pub shorthand-append : (x : First) (cs : List Later) (u : List ℕ) → putFirst x (putLaters cs u) ≡ putFirst x (putLaters cs []) ++ u
 shorthand-append x cs u = ap (putFirst x) (append-laters cs [] u) ∙ append-first x (putLaters cs []) u
 
 reads-short : (d : Depth) (x : Short) (n : ℕ) (t : Query) (l : List Placed) →

@@ -1,16 +1,16 @@
--- `query::scan::skip_blanks` meets its contract: each blank passed leaves the reading as it was, from every control
--- state that takes blanks. The measure is what is left of the query. Assumes nothing.
+-- `query::scan::skip_blanks` meets its contract: each blank passed is one more of those that stand there.
+-- The measure is what is left of the query. Assumes nothing.
 use Prim.Native.Nat.{_-_}
 use native.Mathlib.Omega.{arith}
 use borrow.Author.Needs.{needs}
 use borrow.Author.Tests.{not-true, not-false}
 use lib.ListN.{length}
-use Rattle.query.proofs.Blanks.{SameFrom, no-blanks, one-more, skipped, all-blanks}
+use Rattle.query.proofs.Blanks.{BlanksUpTo, no-blanks, one-more, skipped, all-blanks}
 use Rattle.query.proofs.scan.skip_blanks.Statement.{statement}
 use Rattle.query.proofs.scan.skip_blanks.Tie as tie
 
 abbrev Inv-loop : tie.InvT-loop
-Inv-loop query at i₀ i = SameFrom query at i
+Inv-loop query at i₀ i = BlanksUpTo query at i
 
 abbrev μ-loop : tie.MeasureT-loop
 μ-loop query at i₀ i = length query - i
