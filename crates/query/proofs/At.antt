@@ -35,3 +35,7 @@ module _ (c : Control) (q : List ℕ) (i : ℕ) where
     pub kept-at : (k : Control) → step (at c) (getD q i 0) ≡ at k → event c k ≡ keep → reading c i (drop i q) ≡ reading k (i + 1) (drop (i + 1) q)
     kept-at k e f =
         ap (reading c i) (byte-at q i h) ∙ S.kept c k i (getD q i 0) (drop (i + 1) q) e f ∙ S.moved k (suc i) (i + 1) (drop (i + 1) q) (omega arith)
+
+    -- a dead byte further on is dead for what stands before it
+    pub bad-at : (k : Control) → step (at c) (getD q i 0) ≡ at k → {p : ℕ} → reading k (i + 1) (drop (i + 1) q) ≡ bad p → reading c i (drop i q) ≡ bad p
+    bad-at k e f = turn-at k e ∙ ap (note (event c k) i (getD q i 0)) f

@@ -1,4 +1,5 @@
--- Names: which bytes below 80 go on in a name, end it, or are dead, from the machine's tables; and code points from 80 on by their rows.
+-- Names: which bytes below 80 are characters of a name, and which end it or are dead by the machine's tables; code points from 80 on by their
+-- rows; and a name, one character more at a time, is spelt by the machine.
 -- Assumes nothing.
 use mathlib.Core.Path.{_≡_, refl, ap, sym, subst, _∙_}
 use mathlib.Core.List.{List, [], _∷_, _++_}
@@ -14,18 +15,19 @@ use Rattle.encoding.specs.CodePoint as C
 use Rattle.encoding.specs.CodePoint.{Scanned}
 use Rattle.encoding.specs.Utf8At.{reads-at, scanned-within, scanned-whole, scanned-moved}
 use Rattle.query.specs.Grammar as G
-use Rattle.query.specs.Grammar.{First, Later, Char, Depth, Quote, quoteByte, putFirst, putLater, putLaters, putChar, putChars}
-use Rattle.query.specs.Append.{laters-more, chars-more}
+use Rattle.query.specs.Grammar.{First, Later, Char, Depth, Quote, quoteByte, putFirst, putLater, putLaters, putChar, putChars, putShort}
+use Rattle.query.specs.Append.{append-chars, append-short, laters-more, chars-more}
 use Rattle.query.specs.Machine as M
 use Rattle.query.specs.Machine.{Control, done, inside, short, quoted, dead, Row, only, range, firstRows, beginRows, dotRow, pick, step}
-use Rattle.query.specs.Read.{letter, event, reading}
-use Rattle.query.specs.Spell.{spell, alike}
+use Rattle.query.specs.Read.{reading}
+use Rattle.query.specs.Spell.{spell, spells-chars, alike}
+use Rattle.query.specs.Text.{spells-shorthand}
 use Rattle.query.specs.Rows.{miss, landing, leads, allParted, passes}
 use Rattle.query.specs.Scans.{NameByteIs, digit, upper, underscore, lower, below-digits, below-upper, between-cases, above-lower}
 use Rattle.query.specs.Scans.{spelt, NoName, Moved, NameChar, FirstChar, ShortName, QuotedChar, QuotedName}
 use Rattle.query.proofs.At.{byte-at, end-at, stop-at}
-use Rattle.query.proofs.Letters.{spelt-here, spelt-letter, spelt-join}
-use Rattle.query.proofs.Wides.{wide-dotted, wide-short, wide-quoted, wide-reads}
+use Rattle.query.proofs.Letters.{spelt-put, spelt-bad}
+use Rattle.query.proofs.Wides.{wide-dotted, wide-short, wide-quoted, wide-dead}
 
 -- a byte that is not the row's one byte
 pub miss-only : (n : ℕ) (c : Control) (rs : List Row) (b : ℕ) → (b ≡ n → ⊥) → pick (only n c ∷ rs) b ≡ pick rs b
@@ -36,22 +38,7 @@ miss-only n c rs b f = miss (only n c) rs b (go (leb n b) refl (leb b n) refl)
     go true e false g = L.beyond n n b (leb-false b n g)
     go true e true g = let z : b ≡ n = omega (arith, leb-true n b e, leb-true b n g) in absurd (f z)
 
--- a byte of a shorthand name
-name-later : {b : ℕ} → NameByteIs b true → step (M.at (inside short)) b ≡ M.at (inside short)
-unfolding landing
-name-later (digit l h) = leads (inside short) l h (M.at (inside short)) refl
-name-later (upper l h) = leads (inside short) l h (M.at (inside short)) refl
-name-later (underscore e) = leads (inside short) {lo = 0x5F} {hi = 0x5F} (omega arith) (omega arith) (M.at (inside short)) refl
-name-later (lower l h) = leads (inside short) l h (M.at (inside short)) refl
-
-name-first : (d : Depth) {b : ℕ} → NameByteIs b true → (0x30 ≤ b → b ≤ 0x39 → ⊥) → step (M.at (M.dotted d)) b ≡ M.at (inside short)
-unfolding landing
-name-first d (digit l h) f = absurd (f l h)
-name-first d (upper l h) f = leads (M.dotted d) l h (M.at (inside short)) refl
-name-first d (underscore e) f = leads (M.dotted d) {lo = 0x5F} {hi = 0x5F} (omega arith) (omega arith) (M.at (inside short)) refl
-name-first d (lower l h) f = leads (M.dotted d) l h (M.at (inside short)) refl
-
--- and the character of the grammar that it is
+-- a byte of a shorthand name, as the character of the grammar that it is
 name-stands : {b : ℕ} → NameByteIs b true → (s : List ℕ) → (c : Later) × (putLater c s ≡ b ∷ s)
 unfolding putLater L.make
 name-stands {b} (digit l h) s = (G.digit (L.make b l h), refl)
@@ -95,12 +82,18 @@ unfolding landing
 digit-dies G.plain l h = leads (M.dotted G.plain) l h dead refl
 digit-dies G.deep l h = leads (M.dotted G.deep) l h dead refl
 
-module _ (q : List ℕ) (i : ℕ) (h : i < length q) where
-  -- a byte that is a letter
-  one-letter : (c : Control) (k : Control) → step (M.at c) (getD q i 0) ≡ M.at k → event c k ≡ letter →
-      reading c i (drop i q) ≡ spelt q k i true (i + 1)
-  one-letter c k e f = spelt-letter q c k k i true (i + 1) h e f (omega arith) (omega arith) (spelt-here q k (i + 1))
+byte-of : (q : List ℕ) (i b : ℕ) (s : List ℕ) → b ∷ s ≡ drop i q → getD q i 0 ≡ b
+byte-of q i b s e = ap (λ (n : ℕ). getD q n 0) (omega arith) ∙ sym (getD-drop i q 0 0) ∙ sym (ap (λ (l : List ℕ). getD l 0 0) e)
 
+-- a character of a name that is no digit is a first one
+first-stands : (q : List ℕ) (i r : ℕ) → (0x30 ≤ getD q i 0 → getD q i 0 ≤ 0x39 → ⊥) → (c : Later) → putLater c (drop r q) ≡ drop i q →
+    (x : First) × (putFirst x (drop r q) ≡ drop i q)
+unfolding putLater
+first-stands q i r f (G.first x) e = (x, e)
+first-stands q i r f (G.digit b) e =
+    let z = byte-of q i (b .byte) (drop r q) e in absurd (f (omega (arith, L.from-low b)) (omega (arith, L.to-high b)))
+
+module _ (q : List ℕ) (i : ℕ) (h : i < length q) where
   went-on : Moved q i true (i + 1)
   went-on = record { within = omega arith; on = λ e. omega arith }
 
@@ -116,20 +109,18 @@ module _ (q : List ℕ) (i : ℕ) (h : i < length q) where
   name-wide {ok} {r} w s = record {
     moved = scanned-moves s;
     stands = λ e. let p = scanned-whole s e in (G.first (First.wide (p .0)), p .1);
-    first = λ d n f. wide-reads q (wide-dotted d) h w (reads-at s);
-    later = λ e. rw e at (wide-reads q wide-short h w (reads-at s));
-    dead = λ e g. rw e at (wide-reads q wide-short h w (reads-at s));
+    no-first = λ e d n f. wide-dead q (wide-dotted d) h w (reads-at s) e;
+    dead = λ e g. wide-dead q wide-short h w (reads-at s) e;
     over = λ e g. absurd (omega arith);
   }
 
   pub name-on : {x : Bool} → NameByteIs (getD q i 0) x → x ≡ true → NameChar q i true (i + 1)
   name-on x e =
-      let y = subst (NameByteIs (getD q i 0)) e x in
+      let (c, t) = name-stands (subst (NameByteIs (getD q i 0)) e x) (drop (i + 1) q) in
       record {
         moved = went-on;
-        stands = λ z. let c = name-stands y (drop (i + 1) q) in (c .0, c .1 ∙ sym (byte-at q i h));
-        first = λ d n f. one-letter (M.dotted d) (inside short) (name-first d y f) refl;
-        later = λ z. one-letter (inside short) (inside short) (name-later y) refl;
+        stands = λ z. (c, t ∙ sym (byte-at q i h));
+        no-first = λ z. let w : _≡_ {A = ℕ} 0 1 = cc in absurd (omega arith);
         dead = λ z. let w : _≡_ {A = ℕ} 0 1 = cc in absurd (omega arith);
         over = λ z. let w : _≡_ {A = ℕ} 0 1 = cc in absurd (omega arith);
       }
@@ -140,8 +131,7 @@ module _ (q : List ℕ) (i : ℕ) (h : i < length q) where
       record {
         moved = stayed;
         stands = λ z. let w : _≡_ {A = ℕ} 0 1 = cc in absurd (omega arith);
-        first = λ d n f. stop-at (M.dotted d) q i h (no-name d y w n);
-        later = λ z. let w : _≡_ {A = ℕ} 0 1 = cc in absurd (omega arith);
+        no-first = λ z d n f. stop-at (M.dotted d) q i h (no-name d y w n);
         dead = λ z g. absurd (omega arith);
         over = λ z g. same-done (name-over y w);
       }
@@ -157,26 +147,15 @@ module _ (q : List ℕ) (i : ℕ) (h : i < length q) where
   no-first-digit l u = record {
     moved = stayed;
     stands = λ z. let w : _≡_ {A = ℕ} 0 1 = cc in absurd (omega arith);
-    first = λ d n. stop-at (M.dotted d) q i h (digit-dies d l u);
+    dead = λ z d n. stop-at (M.dotted d) q i h (digit-dies d l u);
   }
-
-byte-of : (q : List ℕ) (i b : ℕ) (s : List ℕ) → b ∷ s ≡ drop i q → getD q i 0 ≡ b
-byte-of q i b s e = ap (λ (n : ℕ). getD q n 0) (omega arith) ∙ sym (getD-drop i q 0 0) ∙ sym (ap (λ (l : List ℕ). getD l 0 0) e)
-
--- a character of a name that is no digit is a first one
-first-stands : (q : List ℕ) (i r : ℕ) → (0x30 ≤ getD q i 0 → getD q i 0 ≤ 0x39 → ⊥) → (c : Later) → putLater c (drop r q) ≡ drop i q →
-    (x : First) × (putFirst x (drop r q) ≡ drop i q)
-unfolding putLater
-first-stands q i r f (G.first x) e = (x, e)
-first-stands q i r f (G.digit b) e =
-    let z = byte-of q i (b .byte) (drop r q) e in absurd (f (omega (arith, L.from-low b)) (omega (arith, L.to-high b)))
 
 pub first-char : {q : List ℕ} {i : ℕ} {ok : Bool} {r : ℕ} → NameChar q i ok r → (0x30 ≤ getD q i 0 → getD q i 0 ≤ 0x39 → ⊥) → FirstChar q i ok r
 first-char {q} {i} {ok} {r} x f =
     record {
       moved = x .moved;
       stands = λ e. first-stands q i r f (x .stands e .0) (x .stands e .1);
-      first = λ d n. x .first d n f;
+      dead = λ e d n. x .no-first e d n f;
     }
 
 -- a shorthand name spelt from n up to i
@@ -184,25 +163,25 @@ pub record ShortSoFar (q : List ℕ) (n i : ℕ) : Type 0 where
   pub from : n < i
   pub within : i ≤ length q
   pub stands : (x : First) × (cs : List Later) × (putFirst x (putLaters cs (drop i q)) ≡ drop n q)
-  pub reads : (d : Depth) → NoName d (getD q n 0) → reading (M.dotted d) n (drop n q) ≡ spelt q (inside short) n true i
+
+short-reads : {q : List ℕ} {n i : ℕ} → ShortSoFar q n i → (d : Depth) → reading (M.dotted d) n (drop n q) ≡ spelt q (inside short) n true i
+unfolding putShort
+short-reads {q} {n} {i} s d =
+    let (x, cs, t) = s .stands in
+    spelt-put q (M.dotted d) (inside short) n i (omega (arith, s .from)) (s .within) (putShort (G.shorthand x cs)) (append-short (G.shorthand x cs))
+    (spells-shorthand d x cs) t
 
 pub short-begins : {q : List ℕ} {n : ℕ} {ok : Bool} {i : ℕ} → FirstChar q n ok i → ok ≡ true → ShortSoFar q n i
 unfolding putLaters
 short-begins {q} {n} {ok} {i} x e =
-    record {
-      from = x .moved .on e;
-      within = x .moved .within;
-      stands = (x .stands e .0, [], x .stands e .1);
-      reads = λ d f. x .first d f ∙ ap (λ (b : Bool). spelt q (inside short) n b i) e;
-    }
+    record { from = x .moved .on e; within = x .moved .within; stands = (x .stands e .0, [], x .stands e .1) }
 
 pub short-dead : {q : List ℕ} {n : ℕ} {ok : Bool} {i : ℕ} → FirstChar q n ok i → ok ≡ false → ShortName q n ok i
 short-dead {q} {n} {ok} {i} x e =
     record {
       moved = x .moved;
       stands = λ z. absurd (subst T (sym z ∙ e) tt);
-      reads = λ d f. x .first d f ∙ ap (λ (b : Bool). spelt q (inside short) n b i) e ∙
-          ap (λ (b : Bool). spelt q done n b i) (sym e);
+      reads = λ d f. x .dead e d f ∙ ap (λ (b : Bool). spelt q done n b i) (sym e);
     }
 
 pub short-goes-on : {q : List ℕ} {n i : ℕ} {ok : Bool} {r : ℕ} → ShortSoFar q n i → NameChar q i ok r → ok ≡ true → ShortSoFar q n r
@@ -214,8 +193,6 @@ short-goes-on {q} {n} {i} {ok} {r} s x e =
       from = omega (arith, s .from);
       within = x .moved .within;
       stands = (y, cs ++ c .0 ∷ [], ap (putFirst y) (laters-more cs (c .0) (drop r q) ∙ ap (putLaters cs) (c .1)) ∙ w);
-      reads = λ d f. spelt-join q (M.dotted d) (inside short) (inside short) n i true r (omega (arith, s .from)) (λ z. omega arith)
-          (s .reads d f) (x .later e);
     }
 
 -- it ends before i, at the end of the query or at a byte in no name
@@ -224,7 +201,7 @@ short-ends {q} {n} {i} s e =
     record {
       moved = record { within = s .within; on = λ z. s .from };
       stands = λ z. s .stands;
-      reads = λ d f. s .reads d f ∙ ap (spell (slice n i q)) e;
+      reads = λ d f. short-reads s d ∙ ap (spell (slice n i q)) e;
     }
 
 pub short-over : {q : List ℕ} {n i : ℕ} {ok : Bool} {r : ℕ} → ShortSoFar q n i → NameChar q i ok r → ok ≡ false → getD q i 0 < 0x80 →
@@ -242,35 +219,12 @@ short-wide-dead {q} {n} {i} {ok} {r} s x e w =
     record {
       moved = record { within = x .moved .within; on = λ z. let y : _≡_ {A = Bool} true false = cc in absurd (subst T y tt) };
       stands = λ z. absurd (subst T (sym z ∙ e) tt);
-      reads = λ d f.
-          spelt-join q (M.dotted d) (inside short) done n i false r (omega (arith, s .from)) (λ z. absurd (subst T (sym z) tt))
-          (s .reads d f) (x .dead e w) ∙
-          ap (λ (b : Bool). spelt q done n b r) (sym e);
+      reads = λ d f. spelt-bad q (M.dotted d) (inside short) n i r (short-reads s d) (x .dead e w) ∙ ap (λ (b : Bool). spelt q done n b r) (sym e);
     }
 
 -- quoted names
 
-quoted-on : (x : Quote) (b : ℕ) → 0x20 ≤ b → b < 0x80 → (b ≡ 0x5C → ⊥) → (b ≡ quoteByte x → ⊥) →
-    step (M.at (inside (quoted x))) b ≡ M.at (inside (quoted x))
-unfolding landing
-quoted-on G.single b l h f g = go (leb b 0x26) refl (leb b 0x5B) refl
-  where
-    go : (x : Bool) → leb b 0x26 ≡ x → (y : Bool) → leb b 0x5B ≡ y → step (M.at (inside (quoted G.single))) b ≡ M.at (inside (quoted G.single))
-    go true e y k = leads (inside (quoted G.single)) l (leb-true b 0x26 e) (M.at (inside (quoted G.single))) refl
-    go false e true k = leads (inside (quoted G.single)) {lo = 0x28} (omega (arith, leb-false b 0x26 e)) (leb-true b 0x5B k)
-        (M.at (inside (quoted G.single))) refl
-    go false e false k = leads (inside (quoted G.single)) {lo = 0x5D} {hi = 0x7F} (omega (arith, leb-false b 0x5B k)) (omega arith)
-        (M.at (inside (quoted G.single))) refl
-quoted-on G.double b l h f g = go (leb b 0x21) refl (leb b 0x5B) refl
-  where
-    go : (x : Bool) → leb b 0x21 ≡ x → (y : Bool) → leb b 0x5B ≡ y → step (M.at (inside (quoted G.double))) b ≡ M.at (inside (quoted G.double))
-    go true e y k = leads (inside (quoted G.double)) l (leb-true b 0x21 e) (M.at (inside (quoted G.double))) refl
-    go false e true k = leads (inside (quoted G.double)) {lo = 0x23} (omega (arith, leb-false b 0x21 e)) (leb-true b 0x5B k)
-        (M.at (inside (quoted G.double))) refl
-    go false e false k = leads (inside (quoted G.double)) {lo = 0x5D} {hi = 0x7F} (omega (arith, leb-false b 0x5B k)) (omega arith)
-        (M.at (inside (quoted G.double))) refl
-
--- and the character of the grammar that it is
+-- a byte of a quoted name, as the character of the grammar that it is
 quoted-stands : (x : Quote) (b : ℕ) → 0x20 ≤ b → b < 0x80 → (b ≡ 0x5C → ⊥) → (b ≡ quoteByte x → ⊥) → (s : List ℕ) → (c : Char x) ×
     (putChar c s ≡ b ∷ s)
 unfolding putChar L.make
@@ -303,28 +257,28 @@ module _ (q : List ℕ) (i : ℕ) (h : i < length q) where
   quoted-wide w s = record {
     moved = scanned-moves q i h s;
     stands = λ e x f. let p = scanned-whole s e in (Char.wide (p .0), p .1);
-    reads = λ x f. wide-reads q (wide-quoted x) h w (reads-at s);
+    dead = λ e x f. wide-dead q (wide-quoted x) h w (reads-at s) e;
   }
 
   pub quoted-control : getD q i 0 < 0x20 → QuotedChar q i false i
   quoted-control w = record {
     moved = stayed q i h;
     stands = λ e. absurd (subst T (sym e) tt);
-    reads = λ x f. stop-at (inside (quoted x)) q i h (control-dies x w);
+    dead = λ e x f. stop-at (inside (quoted x)) q i h (control-dies x w);
   }
 
   pub quoted-backslash : getD q i 0 ≡ 0x5C → QuotedChar q i false i
   quoted-backslash w = record {
     moved = stayed q i h;
     stands = λ e. absurd (subst T (sym e) tt);
-    reads = λ x f. stop-at (inside (quoted x)) q i h (backslash-dies x w);
+    dead = λ e x f. stop-at (inside (quoted x)) q i h (backslash-dies x w);
   }
 
   pub quoted-letter : 0x20 ≤ getD q i 0 → getD q i 0 < 0x80 → (getD q i 0 ≡ 0x5C → ⊥) → QuotedChar q i true (i + 1)
   quoted-letter l u n = record {
     moved = went-on q i h;
-    stands = λ e x f. let c = quoted-stands x (getD q i 0) l u n f (drop (i + 1) q) in (c .0, c .1 ∙ sym (byte-at q i h));
-    reads = λ x f. one-letter q i h (inside (quoted x)) (inside (quoted x)) (quoted-on x (getD q i 0) l u n f) refl;
+    stands = λ e x f. let (c, t) = quoted-stands x (getD q i 0) l u n f (drop (i + 1) q) in (c, t ∙ sym (byte-at q i h));
+    dead = λ e. absurd (subst T e tt);
   }
 
 -- a quoted name spelt from n up to i
@@ -332,12 +286,17 @@ pub record QuotedSoFar (q : List ℕ) (quote n i : ℕ) : Type 0 where
   pub from : n ≤ i
   pub within : i ≤ length q
   pub stand : (x : Quote) → quote ≡ quoteByte x → (cs : List (Char x)) × (putChars cs (drop i q) ≡ drop n q)
-  pub reads : (x : Quote) → quote ≡ quoteByte x → reading (inside (quoted x)) n (drop n q) ≡ spelt q (inside (quoted x)) n true i
+
+quoted-reads : {q : List ℕ} {quote n i : ℕ} → QuotedSoFar q quote n i → (x : Quote) → quote ≡ quoteByte x →
+    reading (inside (quoted x)) n (drop n q) ≡ spelt q (inside (quoted x)) n true i
+quoted-reads {q} {quote} {n} {i} s x e =
+    let (cs, t) = s .stand x e in
+    spelt-put q (inside (quoted x)) (inside (quoted x)) n i (s .from) (s .within) (putChars cs) (append-chars cs) (spells-chars x cs) t
 
 pub quoted-begins : {q : List ℕ} {quote n : ℕ} → n ≤ length q → QuotedSoFar q quote n n
 unfolding putChars
 quoted-begins {q} {quote} {n} h =
-    record { from = omega arith; within = h; stand = λ x e. ([], refl); reads = λ x e. spelt-here q (inside (quoted x)) n }
+    record { from = omega arith; within = h; stand = λ x e. ([], refl) }
 
 pub quoted-goes-on : {q : List ℕ} {quote n i : ℕ} {ok : Bool} {r : ℕ} → QuotedSoFar q quote n i → (getD q i 0 ≡ quote → ⊥) →
     QuotedChar q i ok r → ok ≡ true → QuotedSoFar q quote n r
@@ -348,13 +307,10 @@ quoted-goes-on {q} {quote} {n} {i} {ok} {r} s f x e =
       within = x .moved .within;
       stand = λ y z. let c = x .stands e y (λ w. f (w ∙ sym z)) in let d = s .stand y z in
           (d .0 ++ c .0 ∷ [], chars-more (d .0) (c .0) (drop r q) ∙ ap (putChars (d .0)) (c .1) ∙ d .1);
-      reads = λ y z.
-          spelt-join q (inside (quoted y)) (inside (quoted y)) (inside (quoted y)) n i true r (s .from) (λ w. omega arith) (s .reads y z)
-          (x .reads y (λ w. f (w ∙ sym z)) ∙ ap (λ (b : Bool). spelt q (inside (quoted y)) i b r) e);
     }
 
 pub quoted-closes : {q : List ℕ} {quote n i : ℕ} → QuotedSoFar q quote n i → i < length q → getD q i 0 ≡ quote → QuotedName q quote n true i
-quoted-closes s h e = record { within = s .within; closed = λ w. (s .from, h, e); stand = λ w. s .stand; reads = s .reads }
+quoted-closes s h e = record { within = s .within; closed = λ w. (s .from, h, e); stand = λ w. s .stand; reads = quoted-reads s }
 
 pub quoted-dead : {q : List ℕ} {quote n i : ℕ} {ok : Bool} {r : ℕ} → QuotedSoFar q quote n i → (getD q i 0 ≡ quote → ⊥) →
     QuotedChar q i ok r → ok ≡ false → QuotedName q quote n ok r
@@ -364,9 +320,8 @@ quoted-dead {q} {quote} {n} {i} {ok} {r} s f x e =
       closed = λ w. absurd (subst T (sym w ∙ e) tt);
       stand = λ w. absurd (subst T (sym w ∙ e) tt);
       reads = λ y z.
-          spelt-join q (inside (quoted y)) (inside (quoted y)) (inside (quoted y)) n i ok r (s .from) (λ w. absurd (subst T (sym w ∙ e) tt))
-          (s .reads y z)
-          (x .reads y (λ w. f (w ∙ sym z)));
+          spelt-bad q (inside (quoted y)) (inside (quoted y)) n i r (quoted-reads s y z) (x .dead e y (λ w. f (w ∙ sym z))) ∙
+          ap (λ (b : Bool). spelt q (inside (quoted y)) n b r) (sym e);
     }
 
 pub quoted-open : {q : List ℕ} {quote n i : ℕ} → QuotedSoFar q quote n i → length q ≤ i → QuotedName q quote n false i
@@ -376,7 +331,5 @@ quoted-open {q} {quote} {n} {i} s h =
       closed = λ w. absurd (subst T (sym w) tt);
       stand = λ w. absurd (subst T (sym w) tt);
       reads = λ x z.
-          spelt-join q (inside (quoted x)) (inside (quoted x)) (inside (quoted x)) n i false i (s .from) (λ w. absurd (subst T (sym w) tt))
-          (s .reads x z)
-          (end-at (inside (quoted x)) q i h refl);
+          spelt-bad q (inside (quoted x)) (inside (quoted x)) n i i (quoted-reads s x z) (end-at (inside (quoted x)) q i h refl);
     }

@@ -1,13 +1,13 @@
 -- One step of a query: each part of it that a scan passed leads the reading on, and what is read behind a step has nothing more to say of it.
 -- Assumes nothing.
 use mathlib.Core.Path.{_≡_, refl, ap, ap₂, sym, subst, _∙_}
-use mathlib.Core.List.{List, [], _∷_, _++_, append-cancel-right}
+use mathlib.Core.List.{List, [], _∷_, _++_}
 use mathlib.Core.Bool.{Bool, true, false}
 use Prim.Native.Nat.{ℕ, suc, _+_, _-_, _≤_, _<_}
 use native.Mathlib.Omega.{arith}
 use lib.Dec.{T}
-use lib.ListN.{length, getD, take, drop, take-append-drop}
-use lib.Seq.{slice, drop-append-le, length-take-le}
+use lib.ListN.{length, getD, drop}
+use lib.Seq.{slice}
 use Rattle.encoding.specs.Bytes as B
 use Rattle.encoding.specs.Bytes.{Blanks, putBlanks}
 use Rattle.encoding.specs.Prefix.{DeadPlace}
@@ -35,7 +35,7 @@ use Rattle.query.specs.Reader
 use Rattle.query.specs.Reader.{depthOf, selectorAt, Bounded, choose, push, Closed, Begun, SegmentAt, PartRead, StepAt}
 use Rattle.query.proofs.At.{byte-at, end-at, stop-at, turn-at, kept-at}
 use Rattle.query.proofs.Blanks.{blanks-far, over-blanks}
-use Rattle.query.proofs.Letters.{spell-bad}
+use Rattle.query.proofs.Letters.{written-slice, spell-bad}
 use Rattle.query.proofs.Names.{miss-only}
 
 -- a reading that says nothing of the step before it
@@ -130,12 +130,6 @@ other-closing {b} x f = no-blank x closing (M.only 0x5D done ∷ []) ∙ miss-on
 -- the query from a place on, by the byte that stands there
 byte-is : (q : List ℕ) (i : ℕ) → i < length q → {b : ℕ} → getD q i 0 ≡ b → drop i q ≡ b ∷ drop (i + 1) q
 byte-is q i h e = byte-at q i h ∙ ap (λ (x : ℕ). x ∷ drop (i + 1) q) e
-
--- bytes that stand before the query from r on are a part of it
-written-slice : (q w : List ℕ) (n r : ℕ) → n ≤ r → r ≤ length q → w ++ drop r q ≡ drop n q → w ≡ slice n r q
-written-slice q w n r l h e =
-    append-cancel-right w (slice n r q) (drop r q)
-    (e ∙ ap (drop n) (sym (take-append-drop r q)) ∙ drop-append-le n (take r q) (drop r q) (omega (arith, length-take-le r q h)))
 
 -- the depth of a step that is deep or not
 deep-is : (x : Bool) → isDeep (depthOf x) ≡ x

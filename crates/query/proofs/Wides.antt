@@ -1,6 +1,6 @@
--- Code points in a name: the machine goes from byte to byte as the rows of UTF-8 do, so that a scanned code point is letters of the name,
--- and a wrong byte is dead. Assumes nothing.
-use mathlib.Core.Path.{_≡_, refl}
+-- Code points in a name: the machine goes from byte to byte as the rows of UTF-8 do, so that a byte that is wrong by the rows is dead.
+-- Assumes nothing.
+use mathlib.Core.Path.{_≡_, refl, subst}
 use mathlib.Core.List.{List, [], _∷_}
 use mathlib.Core.Bool.{Bool, false}
 use mathlib.Core.Option.{some}
@@ -17,11 +17,9 @@ use Rattle.query.specs.Machine as M
 use Rattle.query.specs.Machine.{Home, anyTail, afterE0, afterED, afterF0, afterF4, Control, inside, tailDue, dead, Row, range}
 use Rattle.query.specs.Machine.{wideRows, rows, pick, step, final}
 use Rattle.query.specs.Grammar as G
-use Rattle.query.specs.Read.{letter, event, bad, reading}
+use Rattle.query.specs.Read.{bad, reading}
 use Rattle.query.specs.Rows.{hit, miss, landing, leads, allUnder, dies-above}
-use Rattle.query.specs.Scans.{spelt}
-use Rattle.query.proofs.At.{end-at, stop-at}
-use Rattle.query.proofs.Letters.{spelt-here, spelt-letter}
+use Rattle.query.proofs.At.{end-at, stop-at, bad-at}
 
 -- the control state in which these bytes are due
 abbrev dueIn : Due → Home → Control
@@ -75,28 +73,6 @@ due-next U.ed-one h b l u = only-in 0x80 0x9F _ b l u
 due-next U.f0-two h b l u = only-in 0x90 0xBF _ b l u
 due-next U.f4-two h b l u = only-in 0x80 0x8F _ b l u
 
-last-leads : (h : Home) (b : ℕ) → 0x80 ≤ b → b ≤ 0xBF → step (M.at (tailDue anyTail 0 h)) b ≡ M.at (inside h)
-unfolding step
-last-leads h b l u = only-in 0x80 0xBF (inside h) b l u
-
--- what is due is read on, from place i up to r
-record Due-read (q : List ℕ) (c k : Control) (i : ℕ) (ok : Bool) (r : ℕ) : Type 0 where
-  pub from : i ≤ r
-  pub within : i ≤ length q → r ≤ length q
-  pub reads : i ≤ length q → reading c i (drop i q) ≡ spelt q k i ok r
-
-stopped : {q : List ℕ} {c k : Control} {i : ℕ} → (i ≤ length q → reading c i (drop i q) ≡ bad i) → Due-read q c k i false i
-stopped f = record { from = omega arith; within = λ h. h; reads = f }
-
-due-letter : (d : Due) (h : Home) → (c : Control) → event c (dueIn d h) ≡ letter
-due-letter U.one h c = refl
-due-letter U.two h c = refl
-due-letter U.three h c = refl
-due-letter U.after-e0 h c = refl
-due-letter U.after-ed h c = refl
-due-letter U.after-f0 h c = refl
-due-letter U.after-f4 h c = refl
-
 not-final : (d : Due) (h : Home) → final (dueIn d h) ≡ false
 not-final U.one h = refl
 not-final U.two h = refl
@@ -106,23 +82,13 @@ not-final U.after-ed h = refl
 not-final U.after-f0 h = refl
 not-final U.after-f4 h = refl
 
-module _ (q : List ℕ) (h : Home) where
-  -- a letter, and then what is read behind it
-  letter-then : {c k : Control} {i : ℕ} {ok : Bool} {r : ℕ} → i < length q → step (M.at c) (getD q i 0) ≡ M.at k → event c k ≡ letter →
-      Due-read q k (inside h) (i + 1) ok r → Due-read q c (inside h) i ok r
-  letter-then {c} {k} {i} {ok} {r} l e f d = record {
-    from = omega (arith, d .from);
-    within = λ w. d .within (omega arith);
-    reads = λ w. spelt-letter q c k (inside h) i ok r l e f (omega (arith, d .from)) (d .within (omega arith)) (d .reads (omega arith));
-  }
-
-  rest-reads : {d : Due} {i : ℕ} {ok : Bool} {r : ℕ} → RestAt q d i ok r → Due-read q (dueIn d h) (inside h) i ok r
-  rest-reads (A.cut {d} {i} l) = stopped (λ w. end-at (dueIn d h) q i l (not-final d h))
-  rest-reads (A.under {d} {i} l u) = stopped (λ w. stop-at (dueIn d h) q i l (due-under d h (getD q i 0) u))
-  rest-reads (A.over {d} {i} l u) = stopped (λ w. stop-at (dueIn d h) q i l (due-over d h (getD q i 0) u))
-  rest-reads (A.last {i} l u v) = letter-then l (last-leads h (getD q i 0) u v) refl
-      (record { from = omega arith; within = λ w. w; reads = λ w. spelt-here q (inside h) (i + 1) })
-  rest-reads (A.next {d} {e} {i} n l u v r) = letter-then l (due-next n h (getD q i 0) u v) (due-letter e h (dueIn d h)) (rest-reads r)
+-- what is due is not there: the wrong byte is dead
+rest-dead : (q : List ℕ) (h : Home) {d : Due} {i : ℕ} {ok : Bool} {r : ℕ} → RestAt q d i ok r → ok ≡ false → reading (dueIn d h) i (drop i q) ≡ bad r
+rest-dead q h (A.cut {d} {i} l) e = end-at (dueIn d h) q i l (not-final d h)
+rest-dead q h (A.under {d} {i} l u) e = stop-at (dueIn d h) q i l (due-under d h (getD q i 0) u)
+rest-dead q h (A.over {d} {i} l u) e = stop-at (dueIn d h) q i l (due-over d h (getD q i 0) u)
+rest-dead q h (A.last {i} l u v) e = absurd (subst T e tt)
+rest-dead q h (A.next {d} {e = k} {i} n l u v r) e = bad-at (dueIn d h) q i l (dueIn k h) (due-next n h (getD q i 0) u v) (rest-dead q h r e)
 
 -- the control states from which a code point may begin
 pub record WideFrom (c : Control) (h : Home) : Type 0 where
@@ -163,12 +129,10 @@ unfolding landing allUnder
 wide-quoted G.single = wide-from (inside (M.quoted G.single)) (M.quoted G.single) _ refl refl tt
 wide-quoted G.double = wide-from (inside (M.quoted G.double)) (M.quoted G.double) _ refl refl tt
 
--- a code point scanned at i is letters of the name, or the dead byte is at r
-pub wide-reads : (q : List ℕ) {c : Control} {h : Home} {i : ℕ} {ok : Bool} {r : ℕ} → WideFrom c h → i < length q → 0x80 ≤ getD q i 0 →
-    ReadsAt q i ok r →
-    reading c i (drop i q) ≡ spelt q (inside h) i ok r
-wide-reads q w l u (A.cut g) = absurd (omega arith)
-wide-reads q {c} {h} {i} w l u (A.too-low g v) = stop-at c q i l (w .low u v)
-wide-reads q {c} {h} {i} w l u (A.too-high g v) = stop-at c q i l (w .high v)
-wide-reads q {c} {h} {i} w l u (A.first {d} g f r) =
-    (letter-then q h l (w .first f) (due-letter d h c) (rest-reads q h r)) .reads (omega arith)
+-- where no code point stands at i the dead byte is at r
+pub wide-dead : (q : List ℕ) {c : Control} {h : Home} {i : ℕ} {ok : Bool} {r : ℕ} → WideFrom c h → i < length q → 0x80 ≤ getD q i 0 →
+    ReadsAt q i ok r → ok ≡ false → reading c i (drop i q) ≡ bad r
+wide-dead q w l u (A.cut g) e = absurd (omega arith)
+wide-dead q {c} {h} {i} w l u (A.too-low g v) e = stop-at c q i l (w .low u v)
+wide-dead q {c} {h} {i} w l u (A.too-high g v) e = stop-at c q i l (w .high v)
+wide-dead q {c} {h} {i} w l u (A.first {d} g f r) e = bad-at c q i l (dueIn d h) (w .first f) (rest-dead q h r e)

@@ -57,9 +57,8 @@ pub record Moved (q : List ℕ) (at : ℕ) (ok : Bool) (r : ℕ) : Type 0 where
 pub record NameChar (q : List ℕ) (at : ℕ) (ok : Bool) (r : ℕ) : Type 0 where
   pub moved : Moved q at ok r
   pub stands : ok ≡ true → (c : Later) × (putLater c (drop r q) ≡ drop at q)
-  pub first : (d : Depth) → NoName d (getD q at 0) → (0x30 ≤ getD q at 0 → getD q at 0 ≤ 0x39 → ⊥) →
-      reading (dotted d) at (drop at q) ≡ spelt q (inside short) at ok r
-  pub later : ok ≡ true → reading (inside short) at (drop at q) ≡ spelt q (inside short) at true r
+  pub no-first : ok ≡ false → (d : Depth) → NoName d (getD q at 0) → (0x30 ≤ getD q at 0 → getD q at 0 ≤ 0x39 → ⊥) →
+      reading (dotted d) at (drop at q) ≡ bad r
   pub dead : ok ≡ false → 0x80 ≤ getD q at 0 → reading (inside short) at (drop at q) ≡ bad r
   pub over : ok ≡ false → getD q at 0 < 0x80 → reading (inside short) at (drop at q) ≡ reading done at (drop at q)
 
@@ -67,7 +66,7 @@ pub record NameChar (q : List ℕ) (at : ℕ) (ok : Bool) (r : ℕ) : Type 0 whe
 pub record FirstChar (q : List ℕ) (at : ℕ) (ok : Bool) (r : ℕ) : Type 0 where
   pub moved : Moved q at ok r
   pub stands : ok ≡ true → (x : First) × (putFirst x (drop r q) ≡ drop at q)
-  pub first : (d : Depth) → NoName d (getD q at 0) → reading (dotted d) at (drop at q) ≡ spelt q (inside short) at ok r
+  pub dead : ok ≡ false → (d : Depth) → NoName d (getD q at 0) → reading (dotted d) at (drop at q) ≡ bad r
 
 -- a whole shorthand name, after which a step is done
 pub record ShortName (q : List ℕ) (at : ℕ) (ok : Bool) (r : ℕ) : Type 0 where
@@ -79,7 +78,7 @@ pub record ShortName (q : List ℕ) (at : ℕ) (ok : Bool) (r : ℕ) : Type 0 wh
 pub record QuotedChar (q : List ℕ) (at : ℕ) (ok : Bool) (r : ℕ) : Type 0 where
   pub moved : Moved q at ok r
   pub stands : ok ≡ true → (x : Quote) → (getD q at 0 ≡ quoteByte x → ⊥) → (c : Char x) × (putChar c (drop r q) ≡ drop at q)
-  pub reads : (x : Quote) → (getD q at 0 ≡ quoteByte x → ⊥) → reading (inside (quoted x)) at (drop at q) ≡ spelt q (inside (quoted x)) at ok r
+  pub dead : ok ≡ false → (x : Quote) → (getD q at 0 ≡ quoteByte x → ⊥) → reading (inside (quoted x)) at (drop at q) ≡ bad r
 
 -- the rest of a quoted name, up to its closing quote
 pub record QuotedName (q : List ℕ) (quote at : ℕ) (ok : Bool) (r : ℕ) : Type 0 where

@@ -68,7 +68,7 @@ over (x ∷ t) n = over-blanks (x .before) (x .segment) n (putQuery t [])
 
 -- what a step takes
 
-spells-shorthand : (d : Depth) (x : First) (cs : List Later) → Spells (M.dotted d) (putFirst x (putLaters cs [])) (inside short)
+pub spells-shorthand : (d : Depth) (x : First) (cs : List Later) → Spells (M.dotted d) (putFirst x (putLaters cs [])) (inside short)
 spells-shorthand d x cs =
     rw (append-first x [] (putLaters cs []))
     (spells-append (M.dotted d) (inside short) (inside short) (putFirst x []) (putLaters cs []) (spells-first (M.dotted d) _ refl refl x)
