@@ -20,7 +20,7 @@ refuse-requires : tie.Need-refuse-requires Inv-loop μ-loop
 refuse-requires c κs = search needs
 
 returns : tie.Need-returns Inv-loop μ-loop
-returns c = long-answer (c .before .if1 .taken) (c .refuse .ensures)
+returns c = long-answer (omega arith) (c .refuse .ensures)
 
 refuse-requires-2 : tie.Need-refuse-requires-2 Inv-loop μ-loop
 refuse-requires-2 c κs = search needs
@@ -35,7 +35,7 @@ refuse-requires-3 : tie.Need-refuse-requires-3 Inv-loop μ-loop
 refuse-requires-3 c κs = search needs
 
 returns-3 : tie.Need-returns-3 Inv-loop μ-loop
-returns-3 c = other-answer (c .before .before .before .before .if1 .left) (c .before .before .before .if2 .left) (c .before .if3 .taken)
+returns-3 c = other-answer (omega arith) (c .before .before .before .if2 .left) (c .before .if3 .taken)
     (c .refuse3 .ensures)
 
 rows-requires : tie.Need-rows-requires Inv-loop μ-loop
@@ -77,9 +77,11 @@ too-many-requires c κs = let t = step-taken (c .before .before .before .before 
     (t .within, c .before .before .before .before .before .before .before .before .before .loop .inv .1)
 
 returns-5 : tie.Need-returns-5 Inv-loop μ-loop
-returns-5 c = so-far-many (c .before .before .before .before .before .before .before .before .before .before .loop .inv .0)
-    (step-taken (c .before .before .before .before .before .before .before .read-step .ensures)
-    (c .before .before .before .before .before .read .given .1)) (c .before .before .if4 .taken) (c .too-many .ensures)
+returns-5 c =
+    let s = c .before .before .before .before .before .before .before .before .before .before .loop .inv .0 in
+    let t = step-taken (c .before .before .before .before .before .before .before .read-step .ensures)
+    (c .before .before .before .before .before .read .given .1) in
+    so-far-many s t (omega (arith, s .held .count, s .held .few)) (c .too-many .ensures)
 
 add-requires : tie.Need-add-requires Inv-loop μ-loop
 add-requires c κs = let t = step-taken (c .before .before .before .before .before .read-step .ensures)

@@ -1,5 +1,6 @@
 -- `query::scan::quoted_char` meets its contract: a code point is read by the rows of UTF-8, controls and the backslash are
 -- dead, and any other byte is a letter where it is not the quote. Assumes nothing.
+use native.Mathlib.Omega.{arith}
 use borrow.Author.Needs.{needs}
 use Rattle.query.proofs.Names.{quoted-wide, quoted-control, quoted-backslash, quoted-letter}
 use Rattle.query.proofs.scan.quoted_char.Statement.{statement}
@@ -15,10 +16,10 @@ returns : tie.Need-returns
 returns c = quoted-wide _ _ (c .before .before .before .before .pre .0) (c .before .if1 .taken) (c .code-point .ensures)
 
 returns-2 : tie.Need-returns-2
-returns-2 c = quoted-control _ _ (c .before .before .before .before .pre .0) (c .if2 .taken)
+returns-2 c = quoted-control _ _ (c .before .before .before .before .pre .0) (omega arith)
 
 returns-3 : tie.Need-returns-3
-returns-3 c = quoted-backslash _ _ (c .before .before .before .before .before .pre .0) (c .if3 .taken)
+returns-3 c = quoted-backslash _ _ (c .before .before .before .before .before .pre .0) (omega arith)
 
 add-t8 : tie.Need-add-t8
 add-t8 c = search needs
