@@ -1,37 +1,21 @@
--- Blanks: each one passed is one more of those that stand there; and a control state that takes blanks stays as it is, so the reading
--- goes on from behind them. Assumes nothing.
+-- Blanks: each one passed is one more of those that stand there. Assumes nothing.
 use mathlib.Core.Path.{_≡_, refl, ap, sym, subst, _∙_}
 use mathlib.Core.List.{List, [], _∷_, _++_}
 use mathlib.Core.Bool.{Bool, true, false}
 use Prim.Native.Nat.{ℕ, _+_, _≤_, _<_}
 use native.Mathlib.Omega.{arith}
-use lib.ListN.{length, getD, drop, length-drop}
+use lib.ListN.{length, getD, drop}
 use Rattle.encoding.specs.Bytes as B
 use Rattle.encoding.specs.Bytes.{Blank, Blanks, blankByte, putBlanks}
-use Rattle.query.specs.Machine.{Control, at, step}
-use Rattle.query.specs.Read.{keep, event, reading}
-use Rattle.query.specs.Spell.{moved, reads-blanks}
-use Rattle.query.specs.Append.{blanks-more, length-blanks}
+use Rattle.query.specs.Append.{blanks-more}
+use Rattle.query.specs.At.{byte-at}
 use Rattle.query.specs.Scans.{BlankIs, blank, Skipped}
-use Rattle.query.proofs.At.{byte-at}
 
 pub not-blank : {b : ℕ} → (b ≡ 0x20 → ⊥) → (b ≡ 0x09 → ⊥) → (b ≡ 0x0A → ⊥) → (b ≡ 0x0D → ⊥) → (x : Blank) → b ≡ blankByte x → ⊥
 not-blank s t f r B.space e = s e
 not-blank s t f r B.tab e = t e
 not-blank s t f r B.feed e = f e
 not-blank s t f r B.return e = r e
-
--- how far the blanks reach
-pub blanks-far : {q : List ℕ} {n r : ℕ} (s : Skipped q n r) → n + length (s .stand .0) ≡ r
-blanks-far {q} {n} {r} s =
-    omega (arith, s .from, s .within, length-blanks (s .stand .0) (drop r q), ap length (s .stand .1), length-drop n q, length-drop r q)
-
--- blanks lead a control state that takes them back to itself
-pub over-blanks : {q : List ℕ} {n r : ℕ} → Skipped q n r → (c : Control) → ((b : Blank) → step (at c) (blankByte b) ≡ at c) → event c c ≡ keep →
-    reading c n (drop n q) ≡ reading c r (drop r q)
-over-blanks {q} {n} {r} s c f e =
-    let w : Blanks = s .stand .0 in
-    ap (reading c n) (sym (s .stand .1)) ∙ reads-blanks c f e w n (drop r q) ∙ moved c (n + length w) r (drop r q) (blanks-far s)
 
 -- from n up to i stand blanks
 pub record BlanksUpTo (q : List ℕ) (n i : ℕ) : Type 0 where

@@ -1,32 +1,22 @@
 -- Letters of a name at a place of a query: characters of the grammar that stand there are that part of the query, and it is spelt.
 -- Assumes nothing.
-use mathlib.Core.Path.{_≡_, refl, ap, ap₂, sym, _∙_}
-use mathlib.Core.List.{List, [], _∷_, _++_, append-cancel-right}
+use mathlib.Core.Path.{_≡_, ap, ap₂, sym, _∙_}
+use mathlib.Core.List.{List, [], _++_}
 use mathlib.Core.Bool.{true}
 use Prim.Native.Nat.{ℕ, _+_, _≤_}
 use native.Mathlib.Omega.{arith}
-use lib.ListN.{length, take, drop, take-append-drop}
-use lib.Seq.{drop-append-le, length-take-le, slice, length-slice}
+use lib.ListN.{length, drop}
+use lib.Seq.{slice, length-slice}
 use Rattle.query.specs.Machine.{Control}
-use Rattle.query.specs.Read.{letter, bad, note, reading}
-use Rattle.query.specs.Spell.{spell, Spells}
+use Rattle.query.specs.Read.{bad, reading}
+use Rattle.query.specs.Spell.{spell, spell-bad, Spells}
+use Rattle.query.specs.At.{written-slice}
 use Rattle.query.specs.Scans.{spelt}
-
-pub spell-bad : (w : List ℕ) (p : ℕ) → spell w (bad p) ≡ bad p
-unfolding spell
-spell-bad [] p = refl
-spell-bad (b ∷ w) p = ap (note letter 0 b) (spell-bad w p)
 
 -- letters, and a dead byte behind them
 pub spelt-bad : (q : List ℕ) (c k : Control) (i j r : ℕ) → reading c i (drop i q) ≡ spelt q k i true j → reading k j (drop j q) ≡ bad r →
     reading c i (drop i q) ≡ bad r
 spelt-bad q c k i j r e f = e ∙ ap (spell (slice i j q)) f ∙ spell-bad (slice i j q) r
-
--- bytes that stand before the query from r on are a part of it
-pub written-slice : (q w : List ℕ) (n r : ℕ) → n ≤ r → r ≤ length q → w ++ drop r q ≡ drop n q → w ≡ slice n r q
-written-slice q w n r l h e =
-    append-cancel-right w (slice n r q) (drop r q)
-    (e ∙ ap (drop n) (sym (take-append-drop r q)) ∙ drop-append-le n (take r q) (drop r q) (omega (arith, length-take-le r q h)))
 
 -- a character that stands there, whose bytes are letters, is spelt
 pub spelt-put : (q : List ℕ) (c k : Control) (i r : ℕ) → i ≤ r → r ≤ length q → (put : List ℕ → List ℕ) →

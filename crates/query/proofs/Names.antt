@@ -3,7 +3,7 @@
 -- Assumes nothing.
 use mathlib.Core.Path.{_≡_, refl, ap, sym, subst, _∙_}
 use mathlib.Core.List.{List, [], _∷_, _++_}
-use mathlib.Core.Bool.{Bool, true, false, _&&_}
+use mathlib.Core.Bool.{Bool, true, false}
 use Prim.Native.Nat.{ℕ, _+_, _≤_, _<_}
 use native.Mathlib.Omega.{arith}
 use lib.Dec.{T, leb}
@@ -18,25 +18,16 @@ use Rattle.query.specs.Grammar as G
 use Rattle.query.specs.Grammar.{First, Later, Char, Depth, Quote, quoteByte, putFirst, putLater, putLaters, putChar, putChars, putShort}
 use Rattle.query.specs.Append.{append-chars, append-short, laters-more, chars-more}
 use Rattle.query.specs.Machine as M
-use Rattle.query.specs.Machine.{Control, done, inside, short, quoted, dead, Row, only, range, firstRows, beginRows, dotRow, pick, step}
+use Rattle.query.specs.Machine.{Control, done, inside, short, quoted, dead, Row, range, firstRows, beginRows, dotRow, pick, step}
 use Rattle.query.specs.Read.{reading}
 use Rattle.query.specs.Spell.{spell, spells-chars, alike}
 use Rattle.query.specs.Text.{spells-shorthand}
-use Rattle.query.specs.Rows.{miss, landing, leads, allParted, passes}
+use Rattle.query.specs.At.{byte-at, end-at, stop-at}
+use Rattle.query.specs.Rows.{miss, miss-only, landing, leads, allParted, passes}
 use Rattle.query.specs.Scans.{NameByteIs, digit, upper, underscore, lower, below-digits, below-upper, between-cases, above-lower}
 use Rattle.query.specs.Scans.{spelt, NoName, Moved, NameChar, FirstChar, ShortName, QuotedChar, QuotedName}
-use Rattle.query.proofs.At.{byte-at, end-at, stop-at}
 use Rattle.query.proofs.Letters.{spelt-put, spelt-bad}
 use Rattle.query.proofs.Wides.{wide-dotted, wide-short, wide-quoted, wide-dead}
-
--- a byte that is not the row's one byte
-pub miss-only : (n : ℕ) (c : Control) (rs : List Row) (b : ℕ) → (b ≡ n → ⊥) → pick (only n c ∷ rs) b ≡ pick rs b
-miss-only n c rs b f = miss (only n c) rs b (go (leb n b) refl (leb b n) refl)
-  where
-    go : (x : Bool) → leb n b ≡ x → (y : Bool) → leb b n ≡ y → (leb n b && leb b n) ≡ false
-    go false e y g = L.beneath n n b (leb-false n b e)
-    go true e false g = L.beyond n n b (leb-false b n g)
-    go true e true g = let z : b ≡ n = omega (arith, leb-true n b e, leb-true b n g) in absurd (f z)
 
 -- a byte of a shorthand name, as the character of the grammar that it is
 name-stands : {b : ℕ} → NameByteIs b true → (s : List ℕ) → (c : Later) × (putLater c s ≡ b ∷ s)

@@ -1,7 +1,7 @@
 -- One step of a query: each part of it that a scan passed leads the reading on, and what is read behind a step has nothing more to say of it.
 -- Assumes nothing.
 use mathlib.Core.Path.{_≡_, refl, ap, ap₂, sym, subst, _∙_}
-use mathlib.Core.List.{List, [], _∷_, _++_}
+use mathlib.Core.List.{List, [], _∷_}
 use mathlib.Core.Bool.{Bool, true, false}
 use Prim.Native.Nat.{ℕ, suc, _+_, _-_, _≤_, _<_}
 use native.Mathlib.Omega.{arith}
@@ -24,19 +24,17 @@ use Rattle.query.specs.Machine.{Control, root, done, gap, opened, closin
 use Rattle.query.specs.Machine.{beginRows, pick, step, run, place, start}
 use Rattle.query.specs.Read as R
 use Rattle.query.specs.Read.{begin, deepen, Placed, named, Reading, good, bad, note, reading}
-use Rattle.query.specs.Rows.{Lives, every-pick}
+use Rattle.query.specs.Rows.{miss-only, Lives, every-pick}
 use Rattle.query.specs.Spell as P
-use Rattle.query.specs.Spell.{spell, spell-named, done-gap, blank-gap, blank-opened, blank-closing}
+use Rattle.query.specs.Spell.{spell, spell-named, spell-bad, done-gap, blank-gap, blank-opened, blank-closing}
 use Rattle.query.specs.Text.{shorthand-append, quote-opens, quote-closes}
+use Rattle.query.specs.At.{byte-at, byte-is, written-slice, end-at, stop-at, turn-at, kept-at}
 use Rattle.query.specs.Append.{append-chars, append-spaced}
 use Rattle.query.specs.Place.{Tells, well, ill, tells, accepts-text, dead-place}
 use Rattle.query.specs.Scans.{BlankIs, other, Skipped, spelt, deeperByte, ShortName, QuotedName}
 use Rattle.query.specs.Reader
 use Rattle.query.specs.Reader.{depthOf, selectorAt, Bounded, choose, push, Closed, Begun, SegmentAt, PartRead, StepAt}
-use Rattle.query.proofs.At.{byte-at, end-at, stop-at, turn-at, kept-at}
-use Rattle.query.proofs.Blanks.{blanks-far, over-blanks}
-use Rattle.query.proofs.Letters.{written-slice, spell-bad}
-use Rattle.query.proofs.Names.{miss-only}
+use Rattle.query.proofs.Skips.{blanks-far, over-blanks}
 
 -- a reading that says nothing of the step before it
 pub data Ended : Reading → Type 0 where
@@ -126,10 +124,6 @@ other-opened {b} x f g h =
 other-closing : {b : ℕ} → BlankIs b false → (b ≡ 0x5D → ⊥) → step (M.at closing) b ≡ dead
 unfolding step pick
 other-closing {b} x f = no-blank x closing (M.only 0x5D done ∷ []) ∙ miss-only 0x5D done [] b f
-
--- the query from a place on, by the byte that stands there
-byte-is : (q : List ℕ) (i : ℕ) → i < length q → {b : ℕ} → getD q i 0 ≡ b → drop i q ≡ b ∷ drop (i + 1) q
-byte-is q i h e = byte-at q i h ∙ ap (λ (x : ℕ). x ∷ drop (i + 1) q) e
 
 -- the depth of a step that is deep or not
 deep-is : (x : Bool) → isDeep (depthOf x) ≡ x

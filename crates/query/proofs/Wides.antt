@@ -4,7 +4,7 @@ use mathlib.Core.Path.{_≡_, refl, subst}
 use mathlib.Core.List.{List, [], _∷_}
 use mathlib.Core.Bool.{Bool, false}
 use mathlib.Core.Option.{some}
-use Prim.Native.Nat.{ℕ, _+_, _≤_, _<_}
+use Prim.Native.Nat.{ℕ, _≤_, _<_}
 use native.Mathlib.Omega.{arith}
 use lib.Dec.{T}
 use lib.ListN.{length, getD, drop}
@@ -18,8 +18,8 @@ use Rattle.query.specs.Machine.{Home, anyTail, afterE0, afterED, afterF0
 use Rattle.query.specs.Machine.{wideRows, rows, pick, step, final}
 use Rattle.query.specs.Grammar as G
 use Rattle.query.specs.Read.{bad, reading}
+use Rattle.query.specs.At.{end-at, stop-at, bad-at}
 use Rattle.query.specs.Rows.{hit, miss, landing, leads, allUnder, dies-above}
-use Rattle.query.proofs.At.{end-at, stop-at, bad-at}
 
 -- the control state in which these bytes are due
 abbrev dueIn : Due → Home → Control

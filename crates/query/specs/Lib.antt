@@ -1,5 +1,6 @@
 pub mod Answer
 pub mod Append
+pub mod At
 pub mod Examples
 pub mod Grammar
 pub mod Holds

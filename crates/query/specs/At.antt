@@ -1,19 +1,32 @@
 -- The laws of reading at a place of a query: the byte there leads on, or is dead, or the query ends.
 -- Each is the law for a byte in front, with what stands at the place taken out of the query. Assumes nothing.
-use mathlib.Core.Path.{_≡_, ap, _∙_}
-use mathlib.Core.List.{List, [], _∷_}
+use mathlib.Core.Path.{_≡_, ap, sym, _∙_}
+use mathlib.Core.List.{List, [], _∷_, _++_, append-cancel-right}
 use mathlib.Core.Bool.{Bool, true, false}
 use Prim.Native.Nat.{ℕ, suc, _+_, _≤_, _<_}
 use native.Mathlib.Numerals.{add-one}
 use native.Mathlib.Omega.{arith}
-use lib.ListN.{length, getD, drop, drop-of-length-le}
-use lib.Seq.{drop-cons}
+use lib.ListN.{length, getD, take, drop, take-append-drop, drop-of-length-le}
+use lib.Seq.{drop-cons, drop-append-le, length-take-le, slice}
 use Rattle.query.specs.Machine.{Control, dead, at, step, final}
 use Rattle.query.specs.Read.{keep, event, named, Reading, good, bad, note, reading}
 use Rattle.query.specs.Spell as S
 
+-- what stands at a place
+
 pub byte-at : (q : List ℕ) (i : ℕ) → i < length q → drop i q ≡ getD q i 0 ∷ drop (i + 1) q
 byte-at q i h = rw add-one (drop-cons q i 0 h)
+
+pub byte-is : (q : List ℕ) (i : ℕ) → i < length q → {b : ℕ} → getD q i 0 ≡ b → drop i q ≡ b ∷ drop (i + 1) q
+byte-is q i h e = byte-at q i h ∙ ap (λ (x : ℕ). x ∷ drop (i + 1) q) e
+
+-- bytes that stand before the query from r on are a part of it
+pub written-slice : (q w : List ℕ) (n r : ℕ) → n ≤ r → r ≤ length q → w ++ drop r q ≡ drop n q → w ≡ slice n r q
+written-slice q w n r l h e =
+    append-cancel-right w (slice n r q) (drop r q)
+    (e ∙ ap (drop n) (sym (take-append-drop r q)) ∙ drop-append-le n (take r q) (drop r q) (omega (arith, length-take-le r q h)))
+
+-- how it is read
 
 module _ (c : Control) (q : List ℕ) (i : ℕ) where
   -- the query ends
