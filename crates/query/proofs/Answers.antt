@@ -18,6 +18,7 @@ use Rattle.query.specs.Steps.{Step}
 use Rattle.query.specs.Machine as M
 use Rattle.query.specs.Machine.{root, done, dead, pick, step}
 use Rattle.query.specs.Read.{Placed, named, Reading, good, bad, reading, stepsRead}
+use Rattle.query.specs.Ended.{Ended, clean, cut, ended}
 use Rattle.query.specs.At.{end-at, stop-at, kept-at}
 use Rattle.query.specs.Rows.{miss-only}
 use Rattle.query.specs.Reader
@@ -26,7 +27,6 @@ use Rattle.query.specs.Verdict.{maxQueryBytes, maxSteps, stepsIn, placeO
 use Rattle.query.specs.Says.{short-enough, too-long, few, too-many}
 use Rattle.query.specs.Holds.{Holds, noSteps}
 use Rattle.query.specs.Answer.{refusal, overflow, StepsFor, QueryRead}
-use Rattle.query.proofs.Parts.{Ended, clean, cut, ended}
 use Rattle.query.proofs.step.StepRead.{the-type}
 
 abbrev pub refused-with : ℕ → ℕ → Compiled → Outcome

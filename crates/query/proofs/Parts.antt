@@ -1,4 +1,4 @@
--- One step of a query: each part of it that a scan passed leads the reading on, and what is read behind a step has nothing more to say of it.
+-- One step of a query: each part of it that a scan passed leads the reading on, and what stands there is a segment of the grammar.
 -- Assumes nothing.
 use mathlib.Core.Path.{_≡_, refl, ap, ap₂, sym, subst, _∙_}
 use mathlib.Core.List.{List, [], _∷_}
@@ -20,14 +20,13 @@ use Rattle.query.specs.Grammar.{putSegment, putSpaced, isDeep, segmentSt
 use Rattle.query.specs.Steps as S
 use Rattle.query.specs.Steps.{Selector}
 use Rattle.query.specs.Machine as M
-use Rattle.query.specs.Machine.{Control, root, done, gap, opened, closing, inside, tailDue, quoted, State, dead, Row, blankRows}
-use Rattle.query.specs.Machine.{beginRows, pick, step, run, place, start}
+use Rattle.query.specs.Machine.{Control, done, gap, opened, closing, inside, quoted, dead, Row, blankRows, pick, step, run, place, start}
 use Rattle.query.specs.Read as R
-use Rattle.query.specs.Read.{begin, deepen, Placed, named, Reading, good, bad, note, reading}
-use Rattle.query.specs.Rows.{miss-only, Lives, every-pick}
-use Rattle.query.specs.Spell as P
+use Rattle.query.specs.Read.{begin, deepen, Reading, good, bad, note, reading}
+use Rattle.query.specs.Rows.{miss-only}
 use Rattle.query.specs.Spell.{spell, spell-named, spell-bad, done-gap, blank-gap, blank-opened, blank-closing}
 use Rattle.query.specs.Text.{shorthand-append, quote-opens, quote-closes}
+use Rattle.query.specs.Ended.{Ended, clean, cut, ended}
 use Rattle.query.specs.At.{byte-at, byte-is, written-slice, end-at, stop-at, turn-at, kept-at}
 use Rattle.query.specs.Append.{append-chars, append-spaced}
 use Rattle.query.specs.Place.{Tells, well, ill, tells, accepts-text, dead-place}
@@ -35,55 +34,6 @@ use Rattle.query.specs.Scans.{BlankIs, other, Skipped, spelt, deeperByte
 use Rattle.query.specs.Reader
 use Rattle.query.specs.Reader.{depthOf, selectorAt, Bounded, choose, push, Closed, Begun, SegmentAt, PartRead, StepAt}
 use Rattle.query.proofs.Skips.{blanks-far, over-blanks}
-
--- a reading that says nothing of the step before it
-pub data Ended : Reading → Type 0 where
-  clean : (l : List Placed) → Ended (good (named [] l))
-  cut : (p : ℕ) → Ended (bad p)
-
--- where a step may begin, blanks and the beginning of a step alone lead on
-abbrev Begins : Control → Type 0
-Begins root = ⊥
-Begins done = ⊥
-Begins gap = Unit {0}
-Begins (M.dotted G.plain) = Unit {0}
-Begins (M.dotted G.deep) = ⊥
-Begins opened = Unit {0}
-Begins closing = ⊥
-Begins (inside h) = ⊥
-Begins (tailDue p n h) = ⊥
-
-ended-begin : (n b : ℕ) (r : Reading) → Ended (note begin n b r)
-ended-begin n b (good a) = clean _
-ended-begin n b (bad p) = cut p
-
-ended-state : (n b : ℕ) (s : List ℕ) (m : State) → step (M.at gap) b ≡ m → Lives Begins m → Ended (reading gap (suc n) s) →
-    Ended (reading gap n (b ∷ s))
-ended-state n b s dead e l again = subst Ended (sym (P.stop gap n b s e)) (cut n)
-ended-state n b s (M.at root) e l again = absurd l
-ended-state n b s (M.at done) e l again = absurd l
-ended-state n b s (M.at gap) e l again = subst Ended (sym (P.kept gap gap n b s e refl)) again
-ended-state n b s (M.at (M.dotted G.plain)) e l again = subst Ended (sym (P.turn gap (M.dotted G.plain) n b s e))
-    (ended-begin n b (reading (M.dotted G.plain) (suc n) s))
-ended-state n b s (M.at (M.dotted G.deep)) e l again = absurd l
-ended-state n b s (M.at opened) e l again = subst Ended (sym (P.turn gap opened n b s e)) (ended-begin n b (reading opened (suc n) s))
-ended-state n b s (M.at closing) e l again = absurd l
-ended-state n b s (M.at (inside h)) e l again = absurd l
-ended-state n b s (M.at (tailDue p k h)) e l again = absurd l
-
-begins-lives : (b : ℕ) → Lives Begins (step (M.at gap) b)
-unfolding step
-begins-lives b = every-pick Begins beginRows b (tt, (tt, (tt, (tt, (tt, (tt, tt))))))
-
-ended-gap : (n : ℕ) (s : List ℕ) → Ended (reading gap n s)
-unfolding reading
-ended-gap n [] = cut n
-ended-gap n (b ∷ s) = ended-state n b s (step (M.at gap) b) refl (begins-lives b) (ended-gap (suc n) s)
-
-pub ended : (n : ℕ) (s : List ℕ) → Ended (reading done n s)
-unfolding reading
-ended n [] = clean []
-ended n (b ∷ s) = subst Ended (sym (done-gap n b s)) (ended-gap n (b ∷ s))
 
 -- what a step takes, before what is read behind it
 choose-every : (n b : ℕ) (r : Reading) → Ended r → note R.every n b r ≡ choose S.every r

@@ -1,6 +1,7 @@
 pub mod Answer
 pub mod Append
 pub mod At
+pub mod Ended
 pub mod Examples
 pub mod Grammar
 pub mod Holds
