@@ -8,7 +8,7 @@ use pile::Coming;
 use pile::MAX_DEPTH;
 use pile::Standing;
 use pile::pop_frame;
-use query::Compiled;
+use query_parser::Compiled;
 use scan::enter_item;
 use scan::skip_blanks;
 use value::lost;

@@ -1,6 +1,6 @@
 // The plain walk: it enters each container's values one level down, as the nesting goes, and looks at every node.
 use pairs::Counts;
-use query::Compiled;
+use query_parser::Compiled;
 ghost use Prim.Native.Nat.{_+_, _≤_, _<_};
 ghost use lib.ListN.{length};
 ghost use Rattle.encoding.specs.ClassTable.{ClassTable};

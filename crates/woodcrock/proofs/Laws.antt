@@ -7,10 +7,10 @@ use native.Mathlib.Omega.{arith}
 use lib.ListN.{length, length-take}
 use Rattle.json.specs.Grammar.{Tree}
 use Rattle.json.specs.Verdict.{maxBytes, recordVerdict}
-use Rattle.query.specs.Holds.{Holds}
+use Rattle.query_parser.specs.Holds.{Holds}
 use Rattle.query.specs.Verdict.{queryVerdict, stepsIn}
-use Rattle.query.specs.Answer.{QueryRead}
-use Rattle.query.specs.declared.Outcome.{Outcome}
+use Rattle.query_parser.specs.Answer.{QueryRead}
+use Rattle.query_parser.specs.declared.Outcome.{Outcome}
 use Rattle.select.specs.Ways.{spans}
 use Rattle.answers.specs.Lister.{pairsOf}
 use Rattle.answers.specs.Small.{query-place, record-place}

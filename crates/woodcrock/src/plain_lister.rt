@@ -9,7 +9,7 @@ ghost use Rattle.woodcrock.specs.Answers.{Listed};
 pub fn list_plain(query: &[u8], record: &[u8], list: &mut [u32]) -> Answer
     ensures { λ r. ⌜ Listed (now (query .entry)) (now («record» .entry)) (now (list .entry)) (now (list .exit)) r ⌝ }
 {
-    let read = query::read_query(query);
+    let read = query_parser::read_query(query);
     if read.ground != 0 {
         return refuse(read.ground as u32, read.place);
     }
