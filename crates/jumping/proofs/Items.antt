@@ -8,9 +8,9 @@ use lib.Dec.{eqb}
 use lib.ListN.{length, getD, drop, length-drop}
 use lib.Seq.{slice}
 use Rattle.json.specs.Grammar.{Key, putKey, putValue, putMore}
-use Rattle.query.specs.Holds.{Holds}
+use Rattle.query_parser.specs.Holds.{Holds}
 use Rattle.query.specs.Steps.{Step}
-use Rattle.query.specs.declared.compiled.Compiled.{Compiled}
+use Rattle.query_parser.specs.declared.compiled.Compiled.{Compiled}
 use Rattle.select.specs.Nodes.{size, labelOf}
 use Rattle.select.specs.Visits.{visits}
 use Rattle.select.specs.Ways.{frameIf}

@@ -10,9 +10,9 @@ use borrow.Author.Tests.{eq-eqb}
 use Rattle.encoding.specs.Bytes.{putBlanks}
 use Rattle.json.specs.Grammar.{Tree, text, nesting, putValue}
 use Rattle.json.specs.Verdict.{maxDepth}
-use Rattle.query.specs.Holds.{Holds}
+use Rattle.query_parser.specs.Holds.{Holds}
 use Rattle.query.specs.Steps.{Step}
-use Rattle.query.specs.declared.compiled.Compiled.{Compiled}
+use Rattle.query_parser.specs.declared.compiled.Compiled.{Compiled}
 use Rattle.select.specs.Nodes.{size}
 use Rattle.select.specs.Nodes as N
 use Rattle.select.specs.Visits.{visits, nodeVisits}

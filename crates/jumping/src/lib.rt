@@ -11,7 +11,7 @@ use pile::Standing;
 use pile::lost;
 use pile::pass;
 use pile::pop_frame;
-use query::Compiled;
+use query_parser::Compiled;
 use scan::enter_item;
 use scan::skip_blanks;
 ghost use mathlib.Core.Path.{_≡_};

@@ -5,10 +5,10 @@ use mathlib.Core.List.{List}
 use Prim.Native.Nat.{ℕ, zero, suc, _-_}
 use native.Mathlib.Omega.{arith}
 use Rattle.json.specs.Verdict.{recordVerdict}
-use Rattle.query.specs.Holds.{Holds}
+use Rattle.query_parser.specs.Holds.{Holds}
 use Rattle.query.specs.Verdict.{queryVerdict, stepsIn}
-use Rattle.query.specs.Answer.{QueryRead}
-use Rattle.query.specs.declared.Outcome.{Outcome}
+use Rattle.query_parser.specs.Answer.{QueryRead}
+use Rattle.query_parser.specs.declared.Outcome.{Outcome}
 use Rattle.answers.specs.Small.{query-place, record-place}
 use Rattle.automaton.specs.Lists.{lists-query, lists-record}
 use Rattle.validate.specs.Checks.{Answers}

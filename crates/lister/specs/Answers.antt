@@ -3,7 +3,7 @@ use mathlib.Core.Path.{_≡_}
 use mathlib.Core.List.{List}
 use Prim.Native.Nat.{ℕ, zero, suc, _≤_}
 use Rattle.json.specs.Verdict.{maxBytes, recordVerdict}
-use Rattle.query.specs.Holds.{Holds}
+use Rattle.query_parser.specs.Holds.{Holds}
 use Rattle.query.specs.Verdict.{queryVerdict, stepsIn}
 use Rattle.answers.specs.Lister.{Lists}
 use Rattle.pairs.specs.declared.Counts.{Counts}

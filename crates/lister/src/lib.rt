@@ -1,6 +1,6 @@
 // What both listers share: the grounds of refusal before the walk, and the answer after it.
 use pairs::Counts;
-use query::Compiled;
+use query_parser::Compiled;
 ghost use mathlib.Core.Path.{_≡_};
 ghost use Prim.Native.Nat.{_≤_};
 ghost use Rattle.json.specs.Verdict.{maxBytes};
@@ -28,7 +28,7 @@ const LEFT_OVER: u32 = 7;
 pub fn admit(query: &[u8], record: &[u8]) -> Input
     ensures { λ r. ⌜ Admits (now (query .entry)) (now («record» .entry)) r ⌝ }
 {
-    let read = query::read_query(query);
+    let read = query_parser::read_query(query);
     let steps = read.steps;
     if read.ground != 0 {
         return Input {

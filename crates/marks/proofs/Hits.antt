@@ -14,7 +14,7 @@ use Rattle.bits.specs.Bits.{bit, Lowest}
 use Rattle.bits.specs.Laws.{lt-or-ge, bit-zero, bit-test, bit-shr}
 use Rattle.marks.specs.Advances.{Fits, Bounds, namedHit}
 use Rattle.query.specs.Verdict.{maxSteps}
-use Rattle.query.specs.declared.compiled.Compiled.{Compiled}
+use Rattle.query_parser.specs.declared.compiled.Compiled.{Compiled}
 use Rattle.select.specs.Ways.{sameName, frameIf}
 
 pub frames-same : (a m k : ℕ) → a ≡ m → k ≡ frameIf (eqb a m) k

@@ -15,10 +15,10 @@ use lib.Pow.{shl-exact, pow-pos, pow-mono}
 use Rattle.bits.specs.Bits.{bit, number}
 use Rattle.bits.specs.Laws.{lt-or-ge, bit-and, bit-or, bit-zero, bit-shl, bit-test, number-of, shifted}
 use Rattle.bits.specs.Truth.{truth}
-use Rattle.query.specs.Holds.{Holds, everyAt, namedAt, nameAt}
+use Rattle.query_parser.specs.Holds.{Holds, everyAt, namedAt, nameAt}
 use Rattle.query.specs.Steps as S
 use Rattle.query.specs.Steps.{Step, Selector, isDeep}
-use Rattle.query.specs.declared.compiled.Compiled.{Compiled}
+use Rattle.query_parser.specs.declared.compiled.Compiled.{Compiled}
 use Rattle.select.specs.Nodes.{Label, member, element}
 use Rattle.select.specs.MarksStep.{stepHits, step-some}
 use Rattle.select.specs.Ways.{sameName, hits}

@@ -6,10 +6,10 @@ use Prim.Native.Nat.{ℕ, _≤_, _<_}
 use lib.ListN.{length, getD, getElem?}
 use lib.Seq.{slice}
 use Rattle.bits.specs.Bits.{bit}
-use Rattle.query.specs.Holds.{Holds}
+use Rattle.query_parser.specs.Holds.{Holds}
 use Rattle.query.specs.Steps.{Step}
 use Rattle.query.specs.Verdict.{maxSteps}
-use Rattle.query.specs.declared.compiled.Compiled.{Compiled}
+use Rattle.query_parser.specs.declared.compiled.Compiled.{Compiled}
 use Rattle.select.specs.Nodes.{Label, member, element}
 use Rattle.select.specs.MarksStep.{stepHits}
 use Rattle.select.specs.Ways.{sameName}

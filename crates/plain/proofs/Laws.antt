@@ -12,9 +12,9 @@ use Rattle.encoding.specs.Bytes.{putBlanks}
 use Rattle.encoding.specs.Class.{classOf}
 use Rattle.json.specs.Grammar.{Kind, Key, putKey, putValue, putMore, text}
 use Rattle.json.specs.Verdict.{maxDepth}
-use Rattle.query.specs.Holds.{Holds}
+use Rattle.query_parser.specs.Holds.{Holds}
 use Rattle.query.specs.Steps.{Step}
-use Rattle.query.specs.declared.compiled.Compiled.{Compiled}
+use Rattle.query_parser.specs.declared.compiled.Compiled.{Compiled}
 use Rattle.select.specs.Nodes.{Label, size, root, labelOf}
 use Rattle.select.specs.Visits.{visits, nodeVisits}
 use Rattle.select.specs.Ways.{frameIf}

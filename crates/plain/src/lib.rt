@@ -3,7 +3,7 @@ use encoding::CLOSING;
 use encoding::OPENING;
 use json::MAX_DEPTH;
 use pairs::Counts;
-use query::Compiled;
+use query_parser::Compiled;
 ghost use Prim.Native.Nat.{_+_, _≤_, _<_};
 ghost use lib.ListN.{length};
 ghost use Rattle.encoding.specs.ClassTable.{ClassTable};

@@ -2,7 +2,7 @@
 use mathlib.Core.Path.{_≡_, refl, ap, _∙_}
 use mathlib.Core.List.{List, [], _∷_, _++_}
 use Prim.Native.Nat.{ℕ}
-use Rattle.encoding.specs.Bytes.{putBlanks}
+use Rattle.encoding.specs.Bytes.{Blank, Blanks, blankByte, putBlanks}
 use Rattle.encoding.specs.BytesLaws.{append-blanks}
 use Rattle.encoding.specs.Utf8Laws.{append-wide}
 use Rattle.query.specs.Grammar as G
@@ -79,3 +79,20 @@ pub append-query : (t : Query) (s u : List ℕ) → putQuery t (s ++ u) ≡ putQ
 unfolding putQuery
 append-query [] s u = refl
 append-query (x ∷ t) s u = ap (putSpaced x) (append-query t s u) ∙ append-spaced x (putQuery t s) u
+
+-- one more at the end
+
+pub blanks-more : (w : Blanks) (b : Blank) (s : List ℕ) → putBlanks (w ++ b ∷ []) s ≡ putBlanks w (blankByte b ∷ s)
+unfolding putBlanks
+blanks-more [] b s = refl
+blanks-more (x ∷ w) b s = ap (λ (u : List ℕ). blankByte x ∷ u) (blanks-more w b s)
+
+pub laters-more : (cs : List Later) (c : Later) (s : List ℕ) → putLaters (cs ++ c ∷ []) s ≡ putLaters cs (putLater c s)
+unfolding putLaters
+laters-more [] c s = refl
+laters-more (x ∷ cs) c s = ap (putLater x) (laters-more cs c s)
+
+pub chars-more : {q : Quote} (cs : List (Char q)) (c : Char q) (s : List ℕ) → putChars (cs ++ c ∷ []) s ≡ putChars cs (putChar c s)
+unfolding putChars
+chars-more [] c s = refl
+chars-more (x ∷ cs) c s = ap (putChar x) (chars-more cs c s)

@@ -1,15 +1,13 @@
-pub mod Answer
 pub mod Append
+pub mod At
+pub mod Ended
 pub mod Examples
 pub mod Grammar
-pub mod Holds
 pub mod Machine
 pub mod MachineLaws
 pub mod Place
 pub mod Read
-pub mod Reader
 pub mod Says
-pub mod Scans
 pub mod Sound
 pub mod Spell
 pub mod Steps

@@ -9,7 +9,7 @@ use lib.Dec.{T, leb, ltb, leb→le, ltb→lt}
 use Rattle.bits.specs.Truth.{and-left, and-right}
 use Rattle.encoding.specs.Bytes.{In}
 use Rattle.encoding.specs.BytesLaws.{inside, from-low, to-high}
-use Rattle.query.specs.Machine.{Control, State, dead, at, Row, rows, takes, pick, step}
+use Rattle.query.specs.Machine.{Control, State, dead, at, Row, only, rows, takes, pick, step}
 
 -- tests
 
@@ -40,6 +40,10 @@ hit r rs b e = rw (e, pick)
 pub miss : (r : Row) (rs : List Row) (b : ℕ) → takes r b ≡ false → pick (r ∷ rs) b ≡ pick rs b
 unfolding pick
 miss r rs b e = rw (e, pick)
+
+-- a byte that is not the row's one byte
+pub miss-only : (n : ℕ) (c : Control) (rs : List Row) (b : ℕ) → (b ≡ n → ⊥) → pick (only n c ∷ rs) b ≡ pick rs b
+miss-only n c rs b f = miss (only n c) rs b (not-T (takes (only n c) b) (λ t. f (omega (arith, taken-between (only n c) b t))))
 
 -- a row has all bytes of the range, or none
 abbrev covers : Row → ℕ → ℕ → Bool

@@ -51,6 +51,11 @@ unfolding spell
 spell-named [] l = refl
 spell-named (b ∷ w) l = ap (note letter 0 b) (spell-named w l)
 
+pub spell-bad : (w : List ℕ) (p : ℕ) → spell w (bad p) ≡ bad p
+unfolding spell
+spell-bad [] p = refl
+spell-bad (b ∷ w) p = ap (note letter 0 b) (spell-bad w p)
+
 -- these bytes are all letters of a name, and lead from the first control state to the second
 abbrev pub Spells : Control → List ℕ → Control → Type 0
 Spells c w k = (n : ℕ) (u : List ℕ) → reading c n (w ++ u) ≡ spell w (reading k (n + length w) u)

@@ -69,13 +69,13 @@ over (x ∷ t) n = over-blanks (x .before) (x .segment) n (putQuery t [])
 
 -- what a step takes
 
-spells-shorthand : (d : Depth) (x : First) (cs : List Later) → Spells (M.dotted d) (putFirst x (putLaters cs [])) (inside short)
+pub spells-shorthand : (d : Depth) (x : First) (cs : List Later) → Spells (M.dotted d) (putFirst x (putLaters cs [])) (inside short)
 spells-shorthand d x cs =
     rw (append-first x [] (putLaters cs []))
     (spells-append (M.dotted d) (inside short) (inside short) (putFirst x []) (putLaters cs []) (spells-first (M.dotted d) _ refl refl x)
     (spells-laters cs))
 
-shorthand-append : (x : First) (cs : List Later) (u : List ℕ) → putFirst x (putLaters cs u) ≡ putFirst x (putLaters cs []) ++ u
+pub shorthand-append : (x : First) (cs : List Later) (u : List ℕ) → putFirst x (putLaters cs u) ≡ putFirst x (putLaters cs []) ++ u
 shorthand-append x cs u = ap (putFirst x) (append-laters cs [] u) ∙ append-first x (putLaters cs []) u
 
 reads-short : (d : Depth) (x : Short) (n : ℕ) (t : Query) (l : List Placed) →

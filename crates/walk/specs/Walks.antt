@@ -4,9 +4,9 @@ use mathlib.Core.List.{List}
 use Prim.Native.Nat.{ℕ, _≤_}
 use Rattle.json.specs.Grammar.{Tree, text, nesting}
 use Rattle.json.specs.Verdict.{maxDepth}
-use Rattle.query.specs.Holds.{Holds}
+use Rattle.query_parser.specs.Holds.{Holds}
 use Rattle.query.specs.Steps.{Step}
-use Rattle.query.specs.declared.compiled.Compiled.{Compiled}
+use Rattle.query_parser.specs.declared.compiled.Compiled.{Compiled}
 use Rattle.select.specs.Nodes.{root}
 use Rattle.select.specs.Visits.{nodeVisits}
 use Rattle.automaton.specs.State.{next, start}

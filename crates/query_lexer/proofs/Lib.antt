@@ -1,0 +1,4 @@
+pub mod Blanks
+pub mod Letters
+pub mod Names
+pub mod Wides

@@ -1,0 +1,224 @@
+-- The answer to a query: what was read so far stands before what is still to be read, and the verdict is that of the whole.
+-- Assumes nothing.
+use mathlib.Core.Path.{_≡_, refl, ap, sym, subst, _∙_}
+use mathlib.Core.List.{List, [], _∷_, _++_, map, append-assoc, append-nil}
+use Prim.Native.Nat.{ℕ, suc, _≤_, _<_}
+use native.Mathlib.Omega.{arith}
+use denote.Enum.Declared.{tagOf}
+use lib.ListN.{length, getD, drop, replicate, drop-of-length-le, getD-replicate, length-append}
+use Rattle.query_steps.specs.declared.Found.{Found}
+use Rattle.query_steps.specs.declared.StepRead.{StepRead}
+use Rattle.query_steps.specs.declared.StepRead.the-variants.{Taken}
+use Rattle.query_parser.specs.declared.compiled.Compiled.{Compiled}
+use Rattle.query_parser.specs.declared.Outcome.{Outcome}
+use Rattle.bits.specs.Laws.{bit-zero}
+use Rattle.encoding.specs.Verdict
+use Rattle.encoding.specs.Verdict.{Verdict, refused}
+use Rattle.query.specs.Steps.{Step}
+use Rattle.query.specs.Machine as M
+use Rattle.query.specs.Machine.{root, done, dead, pick, step}
+use Rattle.query.specs.Read.{Placed, named, Reading, good, bad, reading, stepsRead}
+use Rattle.query.specs.Ended.{Ended, clean, cut, ended}
+use Rattle.query.specs.At.{end-at, stop-at, kept-at}
+use Rattle.query.specs.MachineLaws.{miss-only}
+use Rattle.query_steps.specs.Reader
+use Rattle.query_steps.specs.Reader.{readPlace, placedAt, push, StepTaken, StepAt}
+use Rattle.query.specs.Verdict.{maxQueryBytes, maxSteps, stepsIn, placeOf, judged, queryVerdict}
+use Rattle.query.specs.Says.{short-enough, too-long, few, too-many}
+use Rattle.query_parser.specs.Holds.{Holds, noSteps}
+use Rattle.query_parser.specs.Answer.{refusal, overflow, StepsFor, QueryRead}
+use Rattle.query_steps.proofs.StepRead.{the-type}
+
+abbrev pub refused-with : ℕ → ℕ → Compiled → Outcome
+refused-with g p c = record { ground = g; place = p; steps = c }
+
+-- steps were passed over, up to i
+pub record OverflowFrom (q : List ℕ) (place n i : ℕ) : Type 0 where
+  pub within : i ≤ length q
+  pub same : overflow place (reading done n (drop n q)) ≡ overflow place (reading done i (drop i q))
+
+overflow-push : (place : ℕ) (x : Placed) (r : Reading) → overflow place (push x r) ≡ overflow place r
+overflow-push place x (good a) = refl
+overflow-push place x (bad p) = refl
+
+-- what a step that was read says
+pub step-taken : {q : List ℕ} {i : ℕ} {r : StepRead} → StepAt q i r → {f : Found} {m : ℕ} → r ≡ Taken f m → StepTaken q i f m
+step-taken {q} {i} s e = go (subst (StepAt q i) e s)
+  where
+    go : {f : Found} {m : ℕ} → StepAt q i (Taken f m) → StepTaken q i f m
+    go (Reader.StepAt.taken f m t) = t
+
+-- and what a refusal says
+step-refused : {q : List ℕ} {i : ℕ} {r : StepRead} → StepAt q i r → tagOf the-type r ≡ 1 → reading done i (drop i q) ≡ bad (readPlace r)
+step-refused (Reader.StepAt.taken f m s) t = absurd (omega arith)
+step-refused (Reader.StepAt.refused p s) t = s .reads
+
+-- nothing is left to read
+nothing-left : (q : List ℕ) (i : ℕ) → length q ≤ i → reading done i (drop i q) ≡ good (named [] [])
+unfolding reading
+nothing-left q i h = ap (reading done i) (drop-of-length-le q h)
+
+module _ {q : List ℕ} {place n i : ℕ} (s : OverflowFrom q place n i) where
+  pub overflow-on : {f : Found} {m : ℕ} → StepTaken q i f m → OverflowFrom q place n m
+  overflow-on {f} {m} t = record {
+    within = t .within;
+    same = s .same ∙ ap (overflow place) (t .reads) ∙
+        overflow-push place (placedAt q f) (reading done m (drop m q));
+  }
+
+  pub overflow-refused : {r : StepRead} {p : ℕ} {a : Outcome} → StepAt q i r → tagOf the-type r ≡ 1 → p ≡ readPlace r → a ≡ refusal 2 p →
+      a ≡ overflow place (reading done n (drop n q))
+  overflow-refused z t e f = f ∙ ap (refusal 2) e ∙ sym (s .same ∙ ap (overflow place) (step-refused z t))
+
+  pub overflow-end : {a : Outcome} → length q ≤ i → a ≡ refusal 3 place → a ≡ overflow place (reading done n (drop n q))
+  overflow-end h f = f ∙ sym (s .same ∙ ap (overflow place) (nothing-left q i h))
+
+-- steps, and then what is still to be read
+abbrev prepend : List Placed → Reading → Reading
+prepend l (good a) = good (named [] (l ++ a .later))
+prepend l (bad p) = bad p
+
+prepend-none : {r : Reading} → Ended r → r ≡ prepend [] r
+prepend-none (clean l) = refl
+prepend-none (cut p) = refl
+
+prepend-push : (l : List Placed) (x : Placed) (r : Reading) → prepend l (push x r) ≡ prepend (l ++ x ∷ []) r
+prepend-push l x (good a) = ap (λ (k : List Placed). good (named [] k)) (sym (append-assoc l (x ∷ []) (a .later)))
+prepend-push l x (bad p) = refl
+
+abbrev stepsOf : List Placed → List Step
+stepsOf l = map (λ (x : Placed). x .step) l
+
+stepsOf-more : (l : List Placed) (x : Placed) → stepsOf (l ++ x ∷ []) ≡ stepsOf l ++ x .step ∷ []
+stepsOf-more [] x = refl
+stepsOf-more (y ∷ l) x = ap (λ (k : List Step). y .step ∷ k) (stepsOf-more l x)
+
+placeOf-here : (l : List Placed) (x : Placed) (k : List Placed) → placeOf (length l) (l ++ x ∷ k) ≡ x .place
+placeOf-here [] x k = refl
+placeOf-here (y ∷ l) x k = placeOf-here l x k
+
+length-steps : (l : List Placed) → length (stepsOf l) ≡ length l
+length-steps [] = refl
+length-steps (x ∷ l) = ap suc (length-steps l)
+
+-- refusals
+
+refused-answer : {q : List ℕ} {g p : ℕ} {a : Outcome} → queryVerdict q ≡ refused (suc g) p → a ≡ refusal (suc g) p → QueryRead q a
+refused-answer {q} {g} {p} {a} e f = record {
+  ground = ap (λ (x : Outcome). x .ground) f ∙ sym (ap (λ (v : Verdict). v .ground) e);
+  place = ap (λ (x : Outcome). x .place) f ∙ sym (ap (λ (v : Verdict). v .place) e);
+  steps = subst (λ (v : Verdict). StepsFor q (v .ground) (a .steps)) (sym e) (ap (λ (x : Outcome). x .steps) f);
+}
+
+pub long-answer : {q : List ℕ} {a : Outcome} → maxQueryBytes < length q → a ≡ refusal 1 maxQueryBytes → QueryRead q a
+long-answer {q} h f = refused-answer (too-long q h) f
+
+bad-answer : {q : List ℕ} {p : ℕ} {a : Outcome} → length q ≤ maxQueryBytes → reading root 0 q ≡ bad p → a ≡ refusal 2 p → QueryRead q a
+unfolding judged
+bad-answer {q} l e f = refused-answer (short-enough q l ∙ ap judged e) f
+
+-- the first byte
+
+pub empty-answer : {q : List ℕ} {a : Outcome} → length q ≡ 0 → a ≡ refusal 2 0 → QueryRead q a
+empty-answer {q} h f = bad-answer (omega arith) (end-at root q 0 (omega arith) refl) f
+
+no-root : (b : ℕ) → (b ≡ 0x24 → ⊥) → step (M.at root) b ≡ dead
+unfolding step pick
+no-root b f = miss-only 0x24 done [] b f
+
+pub other-answer : {q : List ℕ} {a : Outcome} → length q ≤ maxQueryBytes → (length q ≡ 0 → ⊥) → (getD q 0 0 ≡ 0x24 → ⊥) → a ≡ refusal 2 0 →
+    QueryRead q a
+other-answer {q} l n g f = bad-answer l (stop-at root q 0 (omega arith) (no-root (getD q 0 0) g)) f
+
+-- the steps read so far, and the place where reading goes on
+pub record SoFar (q : List ℕ) (c : Compiled) (i : ℕ) : Type 0 where
+  pub short : length q ≤ maxQueryBytes
+  pub within : i ≤ length q
+  pub before : List Placed
+  pub held : Holds q (stepsOf before) c
+  pub reads : reading root 0 q ≡ prepend before (reading done i (drop i q))
+
+root-leads : step (M.at root) 0x24 ≡ M.at done
+unfolding step
+root-leads = refl
+
+holds-none : (q : List ℕ) → Holds q [] noSteps
+holds-none q = record {
+  count = refl;
+  few = omega arith;
+  deep = λ i. bit-zero i;
+  every = λ i. bit-zero i;
+  named = λ i. bit-zero i;
+  starts-length = refl;
+  ends-length = refl;
+  order = λ i h. rw (zeros i h) (omega arith);
+  within = λ i h. rw (zeros i h) (omega arith);
+  name = λ i h. rw (zeros i h) refl;
+}
+  where
+    zeros : (i : ℕ) → i < maxSteps → _≡_ {A = ℕ} (getD (replicate maxSteps 0) i 0) 0
+    zeros i h = getD-replicate maxSteps i 0 0 h
+
+pub begin-so-far : {q : List ℕ} {c : Compiled} → length q ≤ maxQueryBytes → (length q ≡ 0 → ⊥) → getD q 0 0 ≡ 0x24 → c ≡ noSteps → SoFar q c 1
+begin-so-far {q} {c} l n e f = record {
+  short = l;
+  within = omega arith;
+  before = [];
+  held = subst (Holds q []) (sym f) (holds-none q);
+  reads = kept-at root q 0 (omega arith) done (ap (step (M.at root)) e ∙ root-leads) refl ∙ prepend-none (ended 1 (drop 1 q));
+}
+
+module _ {q : List ℕ} {c : Compiled} {i : ℕ} (s : SoFar q c i) where
+  pub so-far-more : {f : Found} {m : ℕ} {d : Compiled} → StepTaken q i f m → Holds q (stepsOf (s .before) ++ placedAt q f .step ∷ []) d →
+      SoFar q d m
+  so-far-more {f} {m} {d} t w = record {
+    short = s .short;
+    within = t .within;
+    before = s .before ++ placedAt q f ∷ [];
+    held = subst (λ (x : List Step). Holds q x d) (sym (stepsOf-more (s .before) (placedAt q f))) w;
+    reads = s .reads ∙ ap (prepend (s .before)) (t .reads) ∙ prepend-push (s .before) (placedAt q f) (reading done m (drop m q));
+  }
+
+  pub so-far-refused : {r : StepRead} {p : ℕ} {a : Outcome} → StepAt q i r → tagOf the-type r ≡ 1 → p ≡ readPlace r → a ≡ refusal 2 p →
+      QueryRead q a
+  so-far-refused z t e f = bad-answer (s .short) (s .reads ∙ ap (prepend (s .before)) (step-refused z t ∙ ap bad (sym e))) f
+
+  -- the query ends
+  pub so-far-end : length q ≤ i → QueryRead q (record { ground = 0; place = 0; steps = c })
+  unfolding judged stepsIn
+  so-far-end h =
+      let l = s .before in
+      let e : reading root 0 q ≡ good (named [] l) = s .reads ∙ ap (prepend l) (nothing-left q i h) ∙
+      ap (λ (k : List Placed). good (named [] k)) (append-nil l) in
+      let v : queryVerdict q ≡ Verdict.taken = short-enough q (s .short) ∙ ap judged e ∙ few l (omega (arith, s .held .few, length-steps l)) in
+      let x : stepsIn q ≡ stepsOf l = ap (λ (r : Reading). stepsOf (stepsRead r)) e in
+      record {
+        ground = sym (ap (λ (v : Verdict). v .ground) v);
+        place = sym (ap (λ (v : Verdict). v .place) v);
+        steps = subst (λ (v : Verdict). StepsFor q (v .ground) c) (sym v) (subst (λ (k : List Step). Holds q k c) (sym x) (s .held));
+      }
+
+  -- a 17th step stands there
+  pub so-far-many : {f : Found} {m : ℕ} {a : Outcome} → StepTaken q i f m → c .count ≡ maxSteps →
+      a ≡ overflow (f .place) (reading done m (drop m q)) → QueryRead q a
+  unfolding judged
+  so-far-many {f} {m} {a} t n g = go (reading done m (drop m q)) (s .reads ∙ ap (prepend (s .before)) (t .reads)) g
+    where
+      go : (r : Reading) → reading root 0 q ≡ prepend (s .before) (push (placedAt q f) r) → a ≡ overflow (f .place) r → QueryRead q a
+      go (good b) e g =
+          let l = s .before in
+          let k : List Placed = l ++ placedAt q f ∷ b .later in
+          let z : length l ≡ maxSteps = sym (length-steps l) ∙ sym (s .held .count) ∙ n in
+          refused-answer
+          (short-enough q (s .short) ∙ ap judged e ∙ too-many k (omega (arith, length-append l (placedAt q f ∷ b .later))) ∙
+          ap (refused 3) (ap (λ (j : ℕ). placeOf j k) (sym z) ∙ placeOf-here l (placedAt q f) (b .later))) g
+      go (bad p) e g = bad-answer (s .short) e g
+
+  -- there is room for one step more
+  pub add-fits : {f : Found} {m : ℕ} → StepTaken q i f m → (c .count ≡ maxSteps → ⊥) →
+      (c .count < maxSteps) × (f .start ≤ maxQueryBytes) × (f .end ≤ maxQueryBytes)
+  add-fits t n = (
+    omega (arith, s .held .count, s .held .few),
+    omega (arith, s .short, t .bounded .order, t .bounded .within),
+    omega (arith, s .short, t .bounded .within),
+  )

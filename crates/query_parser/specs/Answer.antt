@@ -1,0 +1,28 @@
+-- What reading a query answers (document 01, "Grounds for refusing"): the verdict, and the steps where it is taken.
+use mathlib.Core.Path.{_≡_}
+use mathlib.Core.List.{List}
+use Prim.Native.Nat.{ℕ, zero, suc}
+use Rattle.query_parser.specs.declared.compiled.Compiled.{Compiled}
+use Rattle.query_parser.specs.declared.Outcome.{Outcome}
+use Rattle.query.specs.Read.{Reading, good, bad}
+use Rattle.query.specs.Verdict.{stepsIn, queryVerdict}
+use Rattle.query_parser.specs.Holds.{Holds, noSteps}
+
+-- a refusal holds no steps
+abbrev pub refusal : ℕ → ℕ → Outcome
+refusal g p = record { ground = g; place = p; steps = noSteps }
+
+-- a query whose 17th step begins at `place`, by what is read behind that step
+abbrev pub overflow : ℕ → Reading → Outcome
+overflow place (good a) = refusal 3 place
+overflow place (bad p) = refusal 2 p
+
+-- the steps for a ground: all of the query's where there is none, and none on refusal
+abbrev pub StepsFor : List ℕ → ℕ → Compiled → Type 0
+StepsFor q zero c = Holds q (stepsIn q) c
+StepsFor q (suc g) c = c ≡ noSteps
+
+pub record QueryRead (q : List ℕ) (r : Outcome) : Type 0 where
+  pub ground : r .ground ≡ queryVerdict q .ground
+  pub place : r .place ≡ queryVerdict q .place
+  pub steps : StepsFor q (queryVerdict q .ground) (r .steps)

@@ -1,0 +1,92 @@
+// The query reader: grounds 1 to 3, and the steps of a query as masks and bounds of names.
+mod compiled;
+
+pub use compiled::Compiled;
+use query_steps::StepRead;
+ghost use mathlib.Core.Path.{_≡_};
+ghost use Prim.Native.Nat.{_≤_};
+ghost use lib.ListN.{length, drop};
+ghost use Rattle.encoding.specs.RowTable.{RowTable};
+ghost use Rattle.query.specs.Machine.{done};
+ghost use Rattle.query.specs.Read.{reading};
+ghost use Rattle.query_parser.specs.Answer.{refusal, overflow, QueryRead};
+
+const MAX_QUERY_BYTES: usize = 1024;
+
+const ROOT: u8 = b'$';
+
+// The grounds for refusing a query: too many bytes, not in the grammar, too many steps.
+const TOO_LONG: u8 = 1;
+
+const WRONG: u8 = 2;
+
+const TOO_MANY: u8 = 3;
+
+// A query read: ground 0, place 0 and its steps; or the ground and the place of a refusal, and no steps.
+pub struct Outcome {
+    pub ground: u8,
+    pub place: usize,
+    pub steps: Compiled,
+}
+
+// A refusal.
+fn refuse(ground: u8, place: usize) -> Outcome
+    ensures { λ r. ⌜ r ≡ refusal ground place ⌝ }
+{
+    Outcome {
+        ground,
+        place,
+        steps: compiled::no_steps(),
+    }
+}
+
+// The refusal of a query whose 17th step begins at `place`: ground 3, if the rest of it, from `at` on, is in the grammar, and else
+// ground 2.
+fn too_many(rows: &[u8; 45], query: &[u8], place: usize, at: usize) -> Outcome
+    requires { ⌜ (at ≤ length (now query)) × RowTable (now rows) ⌝ }
+    ensures { λ r. ⌜ r ≡ overflow place (reading done at (drop at (now (query .entry)))) ⌝ }
+{
+    let mut i = at;
+    while i < query.len() {
+        let next = query_steps::read_step(rows, query, i);
+        let StepRead::Taken(_, after) = next else {
+            return refuse(WRONG, query_steps::place_of(next));
+        };
+        i = after;
+    }
+    refuse(TOO_MANY, place)
+}
+
+// Reads a query: grounds 1 to 3 with their places, tried in this order, and its steps where it is taken.
+pub fn read_query(query: &[u8]) -> Outcome
+    ensures { λ r. ⌜ QueryRead (now (query .entry)) r ⌝ }
+{
+    if query.len() > MAX_QUERY_BYTES {
+        return refuse(TOO_LONG, MAX_QUERY_BYTES);
+    }
+    if query.len() == 0 {
+        return refuse(WRONG, 0);
+    }
+    if query[0] != ROOT {
+        return refuse(WRONG, 0);
+    }
+    let rows = encoding::rows();
+    let mut steps = compiled::no_steps();
+    let mut at: usize = 1;
+    while at < query.len() {
+        let read = query_steps::read_step(&rows, query, at);
+        let StepRead::Taken(found, after) = read else {
+            return refuse(WRONG, query_steps::place_of(read));
+        };
+        if steps.count == compiled::MAX_STEPS {
+            return too_many(&rows, query, found.place, after);
+        }
+        steps = compiled::add(steps, found);
+        at = after;
+    }
+    Outcome {
+        ground: 0,
+        place: 0,
+        steps,
+    }
+}
