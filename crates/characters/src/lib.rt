@@ -14,6 +14,7 @@ ghost use Rattle.json.specs.Led.{Led};
 ghost use Rattle.scalars.specs.Among.{Among};
 ghost use Rattle.moves.specs.Moves.{Leads};
 ghost use Rattle.characters.specs.Strings.{escapeLetters, HexDigit, Character};
+use encoding::Rows;
 use encoding::Scan;
 
 const QUOTE: u8 = 0x22;
@@ -21,9 +22,6 @@ const QUOTE: u8 = 0x22;
 const BACKSLASH: u8 = 0x5C;
 
 const SMALL_U: u8 = 0x75;
-
-// The first byte of a code point that is not one byte.
-const WIDE: u8 = 0x80;
 
 // How many hexadecimal digits an escaped code unit has.
 const HEX_DIGITS: u8 = 4;
@@ -126,7 +124,7 @@ fn escape_end(s: &[u8], at: usize) -> Scan
 
 // Reads what is not a plain byte nor the closing quote: the characters to which the moves lead, or, where they lead to none, one escape or
 // the code points from 80 (hexadecimal) on that stand there.
-fn character_end(s: &[u8], rows: &[u8; 45], table: &[u64; 256], at: usize) -> Scan
+fn character_end(s: &[u8], rows: &Rows, table: &[u64; 256], at: usize) -> Scan
     requires { ⌜ RowTable (now rows) × (at < length (now s)) × NotPlain (getD (now s) at 0) × (getD (now s) at 0 ≡ 0x22 → ⊥) × Leads (now table) ⌝ }
     ensures { λ r. ⌜ Character (now (s .entry)) at (r .ok) (r .at) ⌝ }
 {
@@ -134,7 +132,7 @@ fn character_end(s: &[u8], rows: &[u8; 45], table: &[u64; 256], at: usize) -> Sc
     if end > at {
         return Scan { ok: true, at: end };
     }
-    if s[at] >= WIDE {
+    if !encoding::narrow(rows, s[at]) {
         return encoding::code_points(rows, s, at);
     }
     if s[at] == BACKSLASH {
@@ -157,7 +155,7 @@ fn rest_run(s: &[u8], at: usize) -> usize
 }
 
 // Reads a string from what follows its opening quote up to the place after its closing quote.
-pub fn string_end(s: &[u8], rows: &[u8; 45], table: &[u64; 256], from: usize) -> Scan
+pub fn string_end(s: &[u8], rows: &Rows, table: &[u64; 256], from: usize) -> Scan
     requires { ⌜ RowTable (now rows) × (from ≤ length (now s)) × Leads (now table) ⌝ }
     ensures { λ r. ⌜ ((f : Bool) → Led (now (s .entry)) from (inString f) (closed f) (r .ok) (r .at)) ⌝ }
 {

@@ -81,7 +81,7 @@ land-then none y = y
 land-then (x & xs) y = x & land-then xs y
 
 plain-land : AllLand plainMoves
-unfolding plainMoves landing
+unfolding plainMoves rows landing
 plain-land = (λ f k ρ. refl) & (λ f k ρ. refl) & (λ f k ρ. refl) & (λ f k ρ. refl) & none
 
 escapes-land : AllLand escapeMoves

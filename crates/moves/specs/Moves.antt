@@ -82,10 +82,14 @@ pub record Added (ms : List Move) (t t′ : List ℕ) : Type 0 where
   pub long : length t′ ≡ 256
   pub each : (b : ℕ) → b < 256 → getD t′ b 0 ≡ joined ms b (getD t b 0)
 
--- bytes that stand for themselves, and the backslash
+-- bytes that stand for themselves, up to the last of the first row of UTF-8, and the backslash
 unfoldable pub plainMoves : List Move
+unfolding rows
 plainMoves =
-    move 0x20 0x21 between between ∷ move 0x23 0x5B between between ∷ move 0x5D 0x7F between between ∷ move 0x5C 0x5C between escape ∷ []
+    move 0x20 0x21 between between ∷
+    move 0x23 0x5B between between ∷
+    move 0x5D (rowAt rows 0 .high) between between ∷
+    move 0x5C 0x5C between escape ∷ []
 
 -- letters after a backslash that stand for one character
 abbrev pub letter : ℕ → Move

@@ -6,6 +6,7 @@ ghost use lib.ListN.{length};
 ghost use Rattle.encoding.specs.RowTable.{RowTable};
 ghost use Rattle.moves.specs.Moves.{MoveAdded, Added, plainMoves, escapeMoves, stateOf, afterSecond, RowAdded, pointMoves};
 ghost use Rattle.moves.specs.Moves.{Leads, Follows, Passes, Characters};
+use encoding::Rows;
 
 // The states, by the first of their bits in a word: nowhere; with one, two or three bytes from 80 to BF due; after a first byte whose
 // second byte has bounds of its own; after a backslash; and between two characters, the only odd number, so that its lowest bit tells it.
@@ -55,14 +56,15 @@ fn add_move(table: &mut [u64; 256], low: u8, high: u8, from: u64, to: u64)
     }
 }
 
-// Adds the moves of bytes that stand for themselves, and of a backslash.
-fn add_plain(table: &mut [u64; 256])
-    requires { ⌜ length (now table) ≡ 256 ⌝ }
+// Adds the moves of bytes that stand for themselves, up to the last of the first row of UTF-8, and of a backslash.
+fn add_plain(table: &mut [u64; 256], rows: &Rows)
+    requires { ⌜ (length (now table) ≡ 256) × RowTable (now rows) ⌝ }
     ensures { λ _. ⌜ Added plainMoves (now (table .entry)) (now (table .exit)) ⌝ }
 {
+    let first = encoding::row_at(rows, 0);
     add_move(table, 0x20, 0x21, BETWEEN, BETWEEN);
     add_move(table, 0x23, 0x5B, BETWEEN, BETWEEN);
-    add_move(table, 0x5D, 0x7F, BETWEEN, BETWEEN);
+    add_move(table, 0x5D, first.high, BETWEEN, BETWEEN);
     add_move(table, 0x5C, 0x5C, BETWEEN, ESCAPE);
 }
 
@@ -95,7 +97,7 @@ fn after_second(bytes: u8) -> u64
 }
 
 // Adds the moves of a row of UTF-8: its first bytes lead to `state`, and from there its second bytes to where the others are due.
-fn add_row(table: &mut [u64; 256], rows: &[u8; 45], n: usize, state: u64)
+fn add_row(table: &mut [u64; 256], rows: &Rows, n: usize, state: u64)
     requires { ⌜ (length (now table) ≡ 256) × RowTable (now rows) × (n < 9) × (state < 64) ⌝ }
     ensures { λ _. ⌜ RowAdded n state (now (table .entry)) (now (table .exit)) ⌝ }
 {
@@ -105,7 +107,7 @@ fn add_row(table: &mut [u64; 256], rows: &[u8; 45], n: usize, state: u64)
 }
 
 // Adds the moves of the rows of UTF-8 after the first.
-fn add_rows(table: &mut [u64; 256], rows: &[u8; 45])
+fn add_rows(table: &mut [u64; 256], rows: &Rows)
     requires { ⌜ (length (now table) ≡ 256) × RowTable (now rows) ⌝ }
     ensures { λ _. ⌜ Added pointMoves (now (table .entry)) (now (table .exit)) ⌝ }
 {
@@ -120,7 +122,7 @@ fn add_rows(table: &mut [u64; 256], rows: &[u8; 45])
 }
 
 // The table of moves for a text of so many bytes. For a short text it has none.
-pub fn moves(rows: &[u8; 45], size: usize) -> [u64; 256]
+pub fn moves(rows: &Rows, size: usize) -> [u64; 256]
     requires { ⌜ RowTable (now rows) ⌝ }
     ensures { λ r. ⌜ Leads r ⌝ }
 {
@@ -128,7 +130,7 @@ pub fn moves(rows: &[u8; 45], size: usize) -> [u64; 256]
     if size < LONG {
         return table;
     }
-    add_plain(&mut table);
+    add_plain(&mut table, rows);
     add_escapes(&mut table);
     add_rows(&mut table, rows);
     table

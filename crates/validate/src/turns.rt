@@ -10,6 +10,7 @@ ghost use Rattle.moves.specs.Moves.{Leads};
 ghost use Rattle.validate.specs.Nesting.{kindOf};
 ghost use Rattle.validate.specs.Texts.{Texted};
 ghost use Rattle.validate.specs.Turns.{standing, ItemDue, Opens, Ready, Turned, TurnTo};
+use encoding::Rows;
 use encoding::Scan;
 use json::MAX_DEPTH;
 
@@ -142,7 +143,7 @@ fn colon_end(s: &[u8], at: usize) -> Scan
 }
 
 // Reads a string, where a value or a name is due, and the colon after a name.
-fn text(s: &[u8], rows: &[u8; 45], table: &[u64; 256], at: usize, depth: usize, due: u8) -> Turn
+fn text(s: &[u8], rows: &Rows, table: &[u64; 256], at: usize, depth: usize, due: u8) -> Turn
     requires { ⌜ RowTable (now rows) × (at < length (now s)) × (getD (now s) at 0 ≡ 0x22) × (due < 2) × Leads (now table) ⌝ }
     ensures { λ r. ⌜ Texted (now (s .entry)) at depth due (r .ground) (r .at) (r .depth) (r .due) ⌝ }
 {
@@ -181,7 +182,7 @@ fn separator(s: &[u8], kinds: &[u8; MAX_DEPTH], at: usize, depth: usize) -> Turn
 // One turn, by what is due and then by the byte.
 pub fn take_turn(
     s: &[u8],
-    rows: &[u8; 45],
+    rows: &Rows,
     table: &[u64; 256],
     kinds: &mut [u8; MAX_DEPTH],
     at: usize,
