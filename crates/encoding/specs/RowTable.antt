@@ -1,25 +1,23 @@
--- The nine rows of UTF-8 as one table of numbers, five to a row (document 01, "UTF-8 is read by nine rows of permitted byte ranges").
+-- The nine rows of UTF-8 as a table: a list of five numbers for each (document 01, "UTF-8 is read by nine rows of permitted byte ranges").
 use mathlib.Core.Path.{_≡_, refl, ap, _∙_}
-use mathlib.Core.List.{List, [], _∷_}
-use mathlib.Core.Bool.{Bool, false, _&&_}
-use Prim.Native.Nat.{ℕ, zero, suc, _+_, _-_, _*_, _≤_, _<_}
+use mathlib.Core.List.{List, [], _∷_, map}
+use mathlib.Core.Bool.{Bool, true, false, _&&_}
+use Prim.Native.Nat.{ℕ, zero, suc, _+_, _-_, _≤_, _<_}
 use native.Mathlib.Omega.{arith}
 use lib.Dec.{leb, leb→le}
-use lib.ListN.{length, getD, drop, List·getD-append}
-use lib.Seq.{getD-append-add}
+use lib.ListN.{length, getD, drop}
 use Rattle.bits.specs.Truth.{allBelow, all-at}
 use Rattle.encoding.specs.BytesLaws.{beneath, beyond}
 use Rattle.encoding.specs.Utf8.{Row, rows}
-use Rattle.encoding.specs.CodePoint.{wrong, later, due, decodeBy, decoding}
+use Rattle.encoding.specs.CodePoint.{whole, wrong, later, due, decodeBy, decoding}
 use Rattle.encoding.specs.Utf8Steps.{afterRow, rowAt, row-hit}
 
--- the numbers of the rows, row after row
-unfoldable pub numbers : List Row → List ℕ
-numbers [] = []
-numbers (r ∷ rs) = r .low ∷ r .high ∷ r .second-low ∷ r .second-high ∷ r .bytes ∷ numbers rs
+-- the numbers of a row
+abbrev pub numbers : Row → List ℕ
+numbers r = r .low ∷ r .high ∷ r .second-low ∷ r .second-high ∷ r .bytes ∷ []
 
-pub record RowTable (table : List ℕ) : Type 0 where
-  pub same : table ≡ numbers rows
+pub record RowTable (table : List (List ℕ)) : Type 0 where
+  pub same : table ≡ map numbers rows
 
 -- the numbers of row n
 pub record RowIs (n low high least most bytes : ℕ) : Type 0 where
@@ -35,45 +33,69 @@ pub record RowOf (b r : ℕ) : Type 0 where
   pub found : r < 9 → (s : List ℕ) → decoding (b ∷ s) ≡ later (afterRow (rowAt rows r) s)
   pub none : r ≡ 9 → (s : List ℕ) → decoding (b ∷ s) ≡ wrong 0
 
--- number k of row n stands at n * 5 + k
-number-at : (rs : List Row) (n k : ℕ) → n < length rs → k < 5 → getD (numbers rs) (n * 5 + k) 0 ≡ getD (numbers (rowAt rs n ∷ [])) k 0
-unfolding numbers
-number-at [] n k h l = absurd (omega arith)
-number-at (r ∷ rs) zero k h l = let z : 0 * 5 + k ≡ k = omega arith in rw z (List·getD-append (numbers (r ∷ [])) (numbers rs) 0 k l)
-number-at (r ∷ rs) (suc n) k h l =
-    let z : suc n * 5 + k ≡ 5 + (n * 5 + k) = omega arith in
-    rw z (getD-append-add (numbers (r ∷ [])) (numbers rs) (n * 5 + k) 0 ∙ number-at rs n k (omega arith) l)
+-- whether b is a code point of one byte: one that the nine rows read whole, and below 80
+pub data Narrow (b : ℕ) : Bool → Type 0 where
+  one-byte : b < 0x80 → ((s : List ℕ) → decodeBy rows (b ∷ s) ≡ whole 1) → Narrow b true
+  more-bytes : 0x80 ≤ b → Narrow b false
 
-module _ {table : List ℕ} (t : RowTable table) (n : ℕ) (h : n < 9) where
-  field-at : (k : ℕ) → k < 5 → getD table (n * 5 + k) 0 ≡ getD (numbers (rowAt rows n ∷ [])) k 0
+module _ {b : ℕ} {r : Bool} (n : Narrow b r) where
+  pub narrow-below : r ≡ true → b < 0x80
+  narrow-below e = by (rw e at n)
+    where
+      by : Narrow b true → b < 0x80
+      by (one-byte l s) = l
+
+  pub narrow-above : r ≡ false → 0x80 ≤ b
+  narrow-above e = by (rw e at n)
+    where
+      by : Narrow b false → 0x80 ≤ b
+      by (more-bytes h) = h
+
+-- entry n of the table has the numbers of row n
+numbers-at : (rs : List Row) (n : ℕ) → n < length rs → getD (map numbers rs) n [] ≡ numbers (rowAt rs n)
+numbers-at [] n h = absurd (omega arith)
+numbers-at (r ∷ rs) zero h = refl
+numbers-at (r ∷ rs) (suc n) h = numbers-at rs n (omega arith)
+
+module _ {table : List (List ℕ)} (t : RowTable table) (n : ℕ) (h : n < 9) where
+  field-at : (k : ℕ) → getD (getD table n []) k 0 ≡ getD (numbers (rowAt rows n)) k 0
   unfolding rows
-  field-at k l = ap (λ (l : List ℕ). getD l (n * 5 + k) 0) (t .same) ∙ number-at rows n k h l
+  field-at k = ap (λ (l : List (List ℕ)). getD (getD l n []) k 0) (t .same) ∙ ap (λ (l : List ℕ). getD l k 0) (numbers-at rows n h)
 
-  pub low-at : getD table (n * 5 + 0) 0 ≡ rowAt rows n .low
-  unfolding numbers
-  low-at = field-at 0 (omega arith)
+  pub low-at : getD (getD table n []) 0 0 ≡ rowAt rows n .low
+  low-at = field-at 0
 
-  pub high-at : getD table (n * 5 + 1) 0 ≡ rowAt rows n .high
-  unfolding numbers
-  high-at = field-at 1 (omega arith)
+  pub high-at : getD (getD table n []) 1 0 ≡ rowAt rows n .high
+  high-at = field-at 1
 
-  pub second-low-at : getD table (n * 5 + 2) 0 ≡ rowAt rows n .second-low
-  unfolding numbers
-  second-low-at = field-at 2 (omega arith)
+  pub second-low-at : getD (getD table n []) 2 0 ≡ rowAt rows n .second-low
+  second-low-at = field-at 2
 
-  pub second-high-at : getD table (n * 5 + 3) 0 ≡ rowAt rows n .second-high
-  unfolding numbers
-  second-high-at = field-at 3 (omega arith)
+  pub second-high-at : getD (getD table n []) 3 0 ≡ rowAt rows n .second-high
+  second-high-at = field-at 3
 
-  pub bytes-at : getD table (n * 5 + 4) 0 ≡ rowAt rows n .bytes
-  unfolding numbers
-  bytes-at = field-at 4 (omega arith)
+  pub bytes-at : getD (getD table n []) 4 0 ≡ rowAt rows n .bytes
+  bytes-at = field-at 4
 
   -- what is due after a first byte of the row, by the numbers of the table
   pub after-at :
       (s : List ℕ) →
-      afterRow (rowAt rows n) s ≡ due (getD table (n * 5 + 2) 0) (getD table (n * 5 + 3) 0) (getD table (n * 5 + 4) 0 - 1) s
+      afterRow (rowAt rows n) s ≡ due (getD (getD table n []) 2 0) (getD (getD table n []) 3 0) (getD (getD table n []) 4 0 - 1) s
   after-at s = rw (second-low-at, second-high-at, bytes-at)
+
+-- the first row has every byte below 80 and no other, and nothing is due after one
+module _ {b : ℕ} where
+  pub under-first : b < rowAt rows 0 .low → {r : Bool} → Narrow b r
+  unfolding rows
+  under-first l = absurd (omega arith)
+
+  pub over-first : rowAt rows 0 .high < b → Narrow b false
+  unfolding rows
+  over-first u = more-bytes (omega arith)
+
+  pub in-first : rowAt rows 0 .low ≤ b → b ≤ rowAt rows 0 .high → Narrow b true
+  unfolding rows due
+  in-first l u = one-byte (omega arith) (λ s. row-hit b s 0 rows (omega arith) l u)
 
 -- every row has a byte at least
 has-byte : ℕ → Bool

@@ -6,12 +6,16 @@ use Prim.Native.Nat.{ℕ, _≤_, _<_}
 use native.Mathlib.Omega.{arith}
 use lib.ListN.{length, getD}
 use Rattle.encoding.specs.CodePoint.{decoding, Scanned}
+use Rattle.encoding.specs.RowTable.{Narrow, narrow-above}
 use Rattle.encoding.specs.Utf8At.{reads-at, scanned-moved}
 
 -- a byte from 80 on stands at place i
 pub record WideAt (s : List ℕ) (i : ℕ) : Type 0 where
   pub inside : i < length s
   pub from-80 : 0x80 ≤ getD s i 0
+
+pub wide-at : {s : List ℕ} {i : ℕ} {r : Bool} → i < length s → Narrow (getD s i 0) r → r ≡ false → WideAt s i
+wide-at h n e = record { inside = h; from-80 = narrow-above n e }
 
 -- how they are read from place i on: ok and the place of the first byte below 80, or the length; or not ok and the place of the first byte
 -- that is wrong

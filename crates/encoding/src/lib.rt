@@ -5,7 +5,7 @@ ghost use lib.ListN.{length, getD};
 ghost use Rattle.encoding.specs.Class.{classOf};
 ghost use Rattle.encoding.specs.ClassTable.{ClassTable};
 ghost use Rattle.encoding.specs.CodePoint.{due, decoding, Scanned};
-ghost use Rattle.encoding.specs.RowTable.{RowTable, RowIs, RowOf};
+ghost use Rattle.encoding.specs.RowTable.{RowTable, RowIs, RowOf, Narrow};
 ghost use Rattle.encoding.specs.WideRun.{WideRun};
 
 mod tables;
@@ -19,10 +19,8 @@ pub const COMMA: u8 = 4;
 
 pub const BLANK: u8 = 7;
 
-// How many rows of UTF-8 there are, and how many numbers each has in the table.
+// How many rows of UTF-8 there are.
 const ROW_COUNT: usize = 9;
-
-const ROW_SIZE: usize = 5;
 
 // The places of a row's numbers: the bounds of the first byte, those of the second, and the number of bytes.
 const LOW: usize = 0;
@@ -40,8 +38,8 @@ const TAIL_LOW: u8 = 0x80;
 
 const TAIL_HIGH: u8 = 0xBF;
 
-// The least byte that is no code point of its own.
-const WIDE: u8 = 0x80;
+// The rows of UTF-8: each has the bounds of the first byte, those of the second, and the number of bytes.
+pub type Rows = [[u8; 5]; 9];
 
 // The table of classes, to be fetched once and lent down.
 pub fn classes() -> [u8; 256]
@@ -59,7 +57,7 @@ pub fn class(table: &[u8; 256], b: u8) -> u8
 }
 
 // The table of the rows of UTF-8, to be fetched once and lent down.
-pub fn rows() -> [u8; 45]
+pub fn rows() -> Rows
     ensures { λ r. ⌜ RowTable r ⌝ }
 {
     tables::ROWS
@@ -75,22 +73,17 @@ pub struct Row {
 }
 
 // Row number `n` of the table.
-pub fn row_at(rows: &[u8; 45], n: usize) -> Row
+pub fn row_at(rows: &Rows, n: usize) -> Row
     requires { ⌜ RowTable (now rows) × (n < 9) ⌝ }
     ensures { λ r. ⌜ RowIs n (r .low) (r .high) (r .least) (r .most) (r .bytes) ⌝ }
 {
-    let first = n * ROW_SIZE;
-    let low = rows[first + LOW];
-    let high = rows[first + HIGH];
-    let least = rows[first + SECOND_LOW];
-    let most = rows[first + SECOND_HIGH];
-    let bytes = rows[first + BYTES];
+    let row = rows[n];
     Row {
-        low,
-        high,
-        least,
-        most,
-        bytes,
+        low: row[LOW],
+        high: row[HIGH],
+        least: row[SECOND_LOW],
+        most: row[SECOND_HIGH],
+        bytes: row[BYTES],
     }
 }
 
@@ -101,22 +94,35 @@ pub struct Scan {
     pub at: usize,
 }
 
+// Whether `b` is a code point of one byte, by the first row.
+pub fn narrow(rows: &Rows, b: u8) -> bool
+    requires { ⌜ RowTable (now rows) ⌝ }
+    ensures { λ r. ⌜ Narrow b r ⌝ }
+{
+    if b < rows[0][LOW] {
+        return false;
+    }
+    if b > rows[0][HIGH] {
+        return false;
+    }
+    true
+}
+
 // The number of the row, after the first, that has `b` as a first byte; the number of rows where none has. The rows ascend: no row after
 // one that begins above `b` has it.
-fn row_of(rows: &[u8; 45], b: u8) -> usize
+fn row_of(rows: &Rows, b: u8) -> usize
     requires { ⌜ RowTable (now rows) ⌝ }
     ensures { λ r. ⌜ RowOf b r ⌝ }
 {
     let mut r: usize = 1;
     while r < ROW_COUNT {
-        let row = r;
-        r += 1;
-        if b <= rows[row * ROW_SIZE + HIGH] {
-            if rows[row * ROW_SIZE + LOW] <= b {
-                return row;
+        if b <= rows[r][HIGH] {
+            if rows[r][LOW] <= b {
+                return r;
             }
             return ROW_COUNT;
         }
+        r += 1;
     }
     r
 }
@@ -149,18 +155,18 @@ fn rest_of(s: &[u8], from: usize, low: u8, high: u8, count: u8) -> Scan
 }
 
 // Reads a code point at `at` by row number `row`, which has the byte there as a first byte.
-fn after_row(rows: &[u8; 45], s: &[u8], at: usize, row: usize) -> Scan
+fn after_row(rows: &Rows, s: &[u8], at: usize, row: usize) -> Scan
     requires { ⌜ RowTable (now rows) × (at < length (now s)) × RowOf (getD (now s) at 0) row × (row < 9) ⌝ }
     ensures { λ r. ⌜ Scanned decoding (now (s .entry)) at (r .ok) (r .at) ⌝ }
 {
-    let low = rows[row * ROW_SIZE + SECOND_LOW];
-    let high = rows[row * ROW_SIZE + SECOND_HIGH];
-    let bytes = rows[row * ROW_SIZE + BYTES];
+    let low = rows[row][SECOND_LOW];
+    let high = rows[row][SECOND_HIGH];
+    let bytes = rows[row][BYTES];
     rest_of(s, at + 1, low, high, bytes - 1)
 }
 
 // Reads one code point from 80 (hexadecimal) on at `at`, by the rows of UTF-8. Any byte may stand there.
-pub fn code_point(rows: &[u8; 45], s: &[u8], at: usize) -> Scan
+pub fn code_point(rows: &Rows, s: &[u8], at: usize) -> Scan
     requires { ⌜ RowTable (now rows) ⌝ }
     ensures { λ r. ⌜ Scanned decoding (now (s .entry)) at (r .ok) (r .at) ⌝ }
 {
@@ -176,13 +182,13 @@ pub fn code_point(rows: &[u8; 45], s: &[u8], at: usize) -> Scan
 
 // Reads the code points from 80 (hexadecimal) on that stand one after another from `at` on, by the rows of UTF-8: ok and the place of the
 // first byte below 80, or the length; or not ok and the place of the first byte that is wrong.
-pub fn code_points(rows: &[u8; 45], s: &[u8], at: usize) -> Scan
+pub fn code_points(rows: &Rows, s: &[u8], at: usize) -> Scan
     requires { ⌜ RowTable (now rows) ⌝ }
     ensures { λ r. ⌜ WideRun (now (s .entry)) at (r .ok) (r .at) ⌝ }
 {
     let mut i = at;
     while i < s.len() {
-        if s[i] < WIDE {
+        if narrow(rows, s[i]) {
             return Scan { ok: true, at: i };
         }
         let row = row_of(rows, s[i]);

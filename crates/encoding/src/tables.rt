@@ -1,4 +1,5 @@
 // The table of classes and the rows of UTF-8, as numbers.
+use crate::Rows;
 
 // The class of every byte, in the order of the bytes: 1 opening bracket, 2 closing, 3 colon, 4 comma, 5 quote,
 // 6 backslash, 7 blank, 0 all others.
@@ -277,61 +278,16 @@ pub const CLASSES: [u8; 256] = [
     0,
 ];
 
-// The nine rows of UTF-8, five numbers to a row: the bounds of the first byte, those of the second (0 where there is none), and how
-// many bytes a code point of the row has. Each byte after the second is from 80 to BF.
-pub const ROWS: [u8; 45] = [
-    // 00-7F
-    0x00,
-    0x7F,
-    0x00,
-    0x00,
-    1,
-    // C2-DF
-    0xC2,
-    0xDF,
-    0x80,
-    0xBF,
-    2,
-    // E0
-    0xE0,
-    0xE0,
-    0xA0,
-    0xBF,
-    3,
-    // E1-EC
-    0xE1,
-    0xEC,
-    0x80,
-    0xBF,
-    3,
-    // ED
-    0xED,
-    0xED,
-    0x80,
-    0x9F,
-    3,
-    // EE-EF
-    0xEE,
-    0xEF,
-    0x80,
-    0xBF,
-    3,
-    // F0
-    0xF0,
-    0xF0,
-    0x90,
-    0xBF,
-    4,
-    // F1-F3
-    0xF1,
-    0xF3,
-    0x80,
-    0xBF,
-    4,
-    // F4
-    0xF4,
-    0xF4,
-    0x80,
-    0x8F,
-    4,
+// The nine rows of UTF-8: the bounds of the first byte, those of the second (0 where there is none), and how many bytes a code point of
+// the row has. Each byte after the second is from 80 to BF.
+pub const ROWS: Rows = [
+    [0x00, 0x7F, 0x00, 0x00, 1],
+    [0xC2, 0xDF, 0x80, 0xBF, 2],
+    [0xE0, 0xE0, 0xA0, 0xBF, 3],
+    [0xE1, 0xEC, 0x80, 0xBF, 3],
+    [0xED, 0xED, 0x80, 0x9F, 3],
+    [0xEE, 0xEF, 0x80, 0xBF, 3],
+    [0xF0, 0xF0, 0x90, 0xBF, 4],
+    [0xF1, 0xF3, 0x80, 0xBF, 4],
+    [0xF4, 0xF4, 0x80, 0x8F, 4],
 ];

@@ -1,4 +1,5 @@
 // Scanners over a query's bytes: blanks, and the two kinds of names.
+use encoding::Rows;
 use encoding::Scan;
 ghost use Prim.Native.Nat.{_≤_, _<_};
 ghost use lib.ListN.{length};
@@ -14,10 +15,8 @@ const FEED: u8 = 0x0A;
 
 const RETURN: u8 = 0x0D;
 
-// The first byte that is no control, and the first that belongs to a code point of more than one byte.
+// The first byte that is no control.
 const PRINTABLE: u8 = 0x20;
-
-const WIDE: u8 = 0x80;
 
 const BACKSLASH: u8 = 0x5C;
 
@@ -85,12 +84,12 @@ fn is_name_byte(b: u8) -> bool
 
 // One character of a shorthand name at `at`: ok and the place after it. Not ok: `at` where a byte below 80 stands there that is in no
 // name, and else the place of the dead byte.
-fn name_char(rows: &[u8; 45], query: &[u8], at: usize) -> Scan
+fn name_char(rows: &Rows, query: &[u8], at: usize) -> Scan
     requires { ⌜ (at < length (now query)) × RowTable (now rows) ⌝ }
     ensures { λ r. ⌜ NameChar (now (query .entry)) at (r .ok) (r .at) ⌝ }
 {
     let b = query[at];
-    if b >= WIDE {
+    if !encoding::narrow(rows, b) {
         return encoding::code_point(rows, query, at);
     }
     if is_name_byte(b) {
@@ -103,7 +102,7 @@ fn name_char(rows: &[u8; 45], query: &[u8], at: usize) -> Scan
 }
 
 // The first character of a shorthand name at `at`, which is no digit: ok and the place after it, or not ok and the place of the dead byte.
-fn first_char(rows: &[u8; 45], query: &[u8], at: usize) -> Scan
+fn first_char(rows: &Rows, query: &[u8], at: usize) -> Scan
     requires { ⌜ (at < length (now query)) × RowTable (now rows) ⌝ }
     ensures { λ r. ⌜ FirstChar (now (query .entry)) at (r .ok) (r .at) ⌝ }
 {
@@ -118,7 +117,7 @@ fn first_char(rows: &[u8; 45], query: &[u8], at: usize) -> Scan
 }
 
 // The shorthand name at `at`: ok and the place after it, or not ok and the place of the dead byte.
-pub fn shorthand(rows: &[u8; 45], query: &[u8], at: usize) -> Scan
+pub fn shorthand(rows: &Rows, query: &[u8], at: usize) -> Scan
     requires { ⌜ (at < length (now query)) × RowTable (now rows) ⌝ }
     ensures { λ r. ⌜ ShortName (now (query .entry)) at (r .ok) (r .at) ⌝ }
 {
@@ -130,7 +129,7 @@ pub fn shorthand(rows: &[u8; 45], query: &[u8], at: usize) -> Scan
     while i < query.len() {
         let next = name_char(rows, query, i);
         if !next.ok {
-            if query[i] < WIDE {
+            if encoding::narrow(rows, query[i]) {
                 return Scan { ok: true, at: i };
             }
             return next;
@@ -142,12 +141,12 @@ pub fn shorthand(rows: &[u8; 45], query: &[u8], at: usize) -> Scan
 
 // One character at `at` of a quoted name, where its quote does not stand: ok and the place after it, or not ok and the place of the dead
 // byte.
-fn quoted_char(rows: &[u8; 45], query: &[u8], at: usize) -> Scan
+fn quoted_char(rows: &Rows, query: &[u8], at: usize) -> Scan
     requires { ⌜ (at < length (now query)) × RowTable (now rows) ⌝ }
     ensures { λ r. ⌜ QuotedChar (now (query .entry)) at (r .ok) (r .at) ⌝ }
 {
     let b = query[at];
-    if b >= WIDE {
+    if !encoding::narrow(rows, b) {
         return encoding::code_point(rows, query, at);
     }
     if b < PRINTABLE {
@@ -164,7 +163,7 @@ fn quoted_char(rows: &[u8; 45], query: &[u8], at: usize) -> Scan
 
 // The quoted name whose first character would stand at `at`: ok and the place of its closing quote, or not ok and the place of the dead
 // byte.
-pub fn quoted(rows: &[u8; 45], query: &[u8], quote: u8, at: usize) -> Scan
+pub fn quoted(rows: &Rows, query: &[u8], quote: u8, at: usize) -> Scan
     requires { ⌜ (at ≤ length (now query)) × RowTable (now rows) ⌝ }
     ensures { λ r. ⌜ QuotedName (now (query .entry)) quote at (r .ok) (r .at) ⌝ }
 {

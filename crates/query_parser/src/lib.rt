@@ -2,6 +2,7 @@
 mod compiled;
 
 pub use compiled::Compiled;
+use encoding::Rows;
 use query_steps::StepRead;
 ghost use mathlib.Core.Path.{_≡_};
 ghost use Prim.Native.Nat.{_≤_};
@@ -42,7 +43,7 @@ fn refuse(ground: u8, place: usize) -> Outcome
 
 // The refusal of a query whose 17th step begins at `place`: ground 3, if the rest of it, from `at` on, is in the grammar, and else
 // ground 2.
-fn too_many(rows: &[u8; 45], query: &[u8], place: usize, at: usize) -> Outcome
+fn too_many(rows: &Rows, query: &[u8], place: usize, at: usize) -> Outcome
     requires { ⌜ (at ≤ length (now query)) × RowTable (now rows) ⌝ }
     ensures { λ r. ⌜ r ≡ overflow place (reading done at (drop at (now (query .entry)))) ⌝ }
 {

@@ -1,4 +1,5 @@
 // One step of a query, read by the scanners.
+use encoding::Rows;
 ghost use mathlib.Core.Path.{_≡_};
 ghost use mathlib.Core.Bool.{true};
 ghost use Prim.Native.Nat.{_≤_, _<_};
@@ -64,7 +65,7 @@ fn close(query: &[u8], found: Found, at: usize) -> StepRead
 
 // A quoted name and the end of its brackets, from the name's first byte on.
 fn read_quoted(
-    rows: &[u8; 45],
+    rows: &Rows,
     query: &[u8],
     place: usize,
     deep: bool,
@@ -90,7 +91,7 @@ fn read_quoted(
 }
 
 // The rest of a step in brackets, from behind the opening one: blanks, a quoted name or `*`, blanks, the closing bracket.
-fn read_bracket(rows: &[u8; 45], query: &[u8], place: usize, deep: bool, at: usize) -> StepRead
+fn read_bracket(rows: &Rows, query: &[u8], place: usize, deep: bool, at: usize) -> StepRead
     requires { ⌜ (at ≤ length (now query)) × RowTable (now rows) ⌝ }
     ensures { λ r. ⌜ PartRead (now (query .entry)) opened at place deep r ⌝ }
 {
@@ -119,7 +120,7 @@ fn read_bracket(rows: &[u8; 45], query: &[u8], place: usize, deep: bool, at: usi
 }
 
 // The rest of a step behind `.` or `..`: a shorthand name or `*`.
-fn read_short(rows: &[u8; 45], query: &[u8], place: usize, deep: bool, at: usize) -> StepRead
+fn read_short(rows: &Rows, query: &[u8], place: usize, deep: bool, at: usize) -> StepRead
     requires { ⌜ (at ≤ length (now query)) × RowTable (now rows) × (getD (now query) at 0 ≡ deeperByte (depthOf deep) → ⊥) ⌝ }
     ensures { λ r. ⌜ PartRead (now (query .entry)) (dotted (depthOf deep)) at place deep r ⌝ }
 {
@@ -156,7 +157,7 @@ fn read_short(rows: &[u8; 45], query: &[u8], place: usize, deep: bool, at: usize
 }
 
 // The rest of a step behind `..`: a shorthand name, `*` or brackets.
-fn read_deep(rows: &[u8; 45], query: &[u8], place: usize, at: usize) -> StepRead
+fn read_deep(rows: &Rows, query: &[u8], place: usize, at: usize) -> StepRead
     requires { ⌜ (at ≤ length (now query)) × RowTable (now rows) ⌝ }
     ensures { λ r. ⌜ PartRead (now (query .entry)) (dotted (depthOf true)) at place true r ⌝ }
 {
@@ -170,7 +171,7 @@ fn read_deep(rows: &[u8; 45], query: &[u8], place: usize, at: usize) -> StepRead
 }
 
 // The step that stands at `at`, before the query's end, with the blanks before it; or a refusal and the place of the dead byte.
-pub fn read_step(rows: &[u8; 45], query: &[u8], at: usize) -> StepRead
+pub fn read_step(rows: &Rows, query: &[u8], at: usize) -> StepRead
     requires { ⌜ (at < length (now query)) × RowTable (now rows) ⌝ }
     ensures { λ r. ⌜ StepAt (now (query .entry)) at r ⌝ }
 {

@@ -15,7 +15,7 @@ use Rattle.json.specs.Check.{ended}
 use Rattle.json.specs.CheckLaws.{here, end-at}
 use Rattle.json.specs.Led.{outcome, led-here}
 use Rattle.json.specs.Verdict.{maxDepth, maxBytes, textVerdict, recordVerdict}
-use Rattle.validate.specs.Blanks.{Loose, at-item, at-after, led-blanks}
+use Rattle.scalars.specs.Blanks.{Loose, at-item, at-after, led-blanks}
 use Rattle.validate.specs.Nesting.{stackOf, roomAt, stack-pop}
 use Rattle.validate.specs.Turns.{dueOf, standing, turned, Ready, Turned}
 

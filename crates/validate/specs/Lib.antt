@@ -1,13 +1,5 @@
-pub mod Among
-pub mod Blanks
 pub mod Checks
-pub mod Moves
-pub mod MoveLaws
 pub mod Nesting
-pub mod Numbers
 pub mod Opened
-pub mod Scalars
-pub mod Strings
 pub mod Texts
 pub mod Turns
-pub mod Words

@@ -12,7 +12,7 @@ use Rattle.json.specs.Room.{Room}
 use Rattle.json.specs.Machine.{Ctl, item, inString, wordDue, afterMinus, afterZero, inInt, Stack, State, at, Rule, one, span, opens, closes, lowest, highest, takes, apply, blankRules, pick, step}
 use Rattle.json.specs.MachineLaws.{pick-later, takes-between}
 use Rattle.json.specs.Led.{Led, led-here, led-over, led-same}
-use Rattle.validate.specs.Among.{AmongAt, byte, nothing, other, no-more, missed}
+use Rattle.scalars.specs.Among.{AmongAt, byte, nothing, other, no-more, missed}
 
 untaken : (r : Rule) (b : ℕ) → (lowest r ≤ b → b ≤ highest r → ⊥) → takes r b ≡ false
 untaken r b n = by (takes r b) refl

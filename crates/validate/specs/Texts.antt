@@ -12,8 +12,8 @@ use Rattle.json.specs.Room.{Room, endless}
 use Rattle.json.specs.Machine.{item, colon, after, inString, closed, valueDue, Stack, at, one, step}
 use Rattle.json.specs.MachineLaws.{past, nowhere, step-by}
 use Rattle.json.specs.Led.{Led, led-here, led-go, led-die, led-end, led-on, led-dead}
-use Rattle.validate.specs.Among.{never, other, no-more, AmongAt, byte, nothing, missed, among-within, among-byte}
-use Rattle.validate.specs.Blanks.{past-blanks}
+use Rattle.scalars.specs.Among.{never, other, no-more, AmongAt, byte, nothing, missed, among-within, among-byte}
+use Rattle.scalars.specs.Blanks.{past-blanks}
 use Rattle.validate.specs.Turns.{dueOf, standing, Ready, Turned, TurnTo, led-turn}
 
 -- what a string comes to, where a value or a name is due, in any containers

@@ -16,8 +16,8 @@ use Rattle.json.specs.MachineLaws.{past, nowhere, step-by, item-close, after-co
 use Rattle.json.specs.CheckLaws.{here, go-at, die-at, deep-at, enter-at}
 use Rattle.json.specs.Led.{Led, outcome, led-here}
 use Rattle.json.specs.Verdict.{maxDepth}
-use Rattle.validate.specs.Among.{never, AmongAt, among-within, among-byte, missed}
-use Rattle.validate.specs.Blanks.{at-item, led-blanks, past-blanks}
+use Rattle.scalars.specs.Among.{never, AmongAt, among-within, among-byte, missed}
+use Rattle.scalars.specs.Blanks.{at-item, led-blanks, past-blanks}
 use Rattle.validate.specs.Nesting.{kindOf, stackOf, roomAt, stack-push, stack-pop, stack-under}
 use Rattle.validate.specs.Opened.{led-opened}
 

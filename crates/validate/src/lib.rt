@@ -3,15 +3,10 @@ ghost use Prim.Native.Nat.{_≤_};
 ghost use lib.ListN.{length};
 ghost use Rattle.json.specs.Verdict.{textVerdict, recordVerdict};
 ghost use Rattle.validate.specs.Checks.{Answers};
+use json::MAX_BYTES;
+use json::MAX_DEPTH;
 
-mod moves;
-mod numbers;
-mod strings;
 mod turns;
-mod words;
-
-// The bytes that a record may have.
-const MAX_BYTES: usize = 16777216;
 
 // The ground of a record that has too many, of one that is no JSON text, and that of none.
 const TOO_LONG: u32 = 4;
@@ -32,7 +27,7 @@ fn check_text(text: &[u8]) -> Checked
 {
     let rows = encoding::rows();
     let table = moves::moves(&rows, text.len());
-    let mut kinds: [u8; 512] = [0; 512];
+    let mut kinds: [u8; MAX_DEPTH] = [0; MAX_DEPTH];
     let mut depth: usize = 0;
     let mut due = turns::VALUE;
     let mut i = swar::blank_run(text, 0);

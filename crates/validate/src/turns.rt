@@ -1,24 +1,18 @@
 // The turns of the check: what is due is read, and the containers around it are kept.
-ghost use mathlib.Core.Bool.{true};
 ghost use mathlib.Core.Path.{_≡_};
 ghost use Prim.Native.Nat.{_≤_, _<_};
 ghost use lib.ListN.{length, getD};
 ghost use Rattle.encoding.specs.RowTable.{RowTable};
 ghost use Rattle.json.specs.Grammar as grammar;
 ghost use Rattle.json.specs.Led.{Led};
-ghost use Rattle.json.specs.Machine.{afterMinus, colon, valueDue};
-ghost use Rattle.validate.specs.Moves.{Leads};
+ghost use Rattle.json.specs.Machine.{colon, valueDue};
+ghost use Rattle.moves.specs.Moves.{Leads};
 ghost use Rattle.validate.specs.Nesting.{kindOf};
-ghost use Rattle.validate.specs.Scalars.{Bare, Scalar};
 ghost use Rattle.validate.specs.Texts.{Texted};
 ghost use Rattle.validate.specs.Turns.{standing, ItemDue, Opens, Ready, Turned, TurnTo};
-use crate::numbers;
-use crate::strings;
-use crate::words;
+use encoding::Rows;
 use encoding::Scan;
-
-// The levels that a record may nest.
-const MAX_DEPTH: usize = 512;
+use json::MAX_DEPTH;
 
 // The kinds of containers.
 const ARRAY: u8 = 0;
@@ -87,49 +81,8 @@ fn closing(kind: u8) -> u8
     b'}'
 }
 
-// The place after the minus sign that stands at `at`, or `at` where none does.
-fn minus_end(s: &[u8], at: usize) -> usize
-    requires { ⌜ (at < length (now s)) × Bare (getD (now s) at 0) × (getD (now s) at 0 ≤ 0x39) ⌝ }
-    ensures { λ r. ⌜ Led (now (s .entry)) at valueDue afterMinus true r ⌝ }
-{
-    if s[at] == b'-' {
-        return at + 1;
-    }
-    at
-}
-
-// Reads a literal name.
-fn word_end(s: &[u8], at: usize) -> Scan
-    requires { ⌜ (at < length (now s)) × Bare (getD (now s) at 0) × (0x39 < getD (now s) at 0) ⌝ }
-    ensures { λ r. ⌜ Scalar (now (s .entry)) at (r .ok) (r .at) ⌝ }
-{
-    let b = s[at];
-    if b == b't' {
-        return words::letters_end(s, at + 1, b'r', b'u', b'e');
-    }
-    if b == b'n' {
-        return words::letters_end(s, at + 1, b'u', b'l', b'l');
-    }
-    if b == b'f' {
-        return words::false_end(s, at + 1);
-    }
-    Scan { ok: false, at }
-}
-
-// Reads a number or a literal name, where a byte stands that begins neither a string nor a container.
-fn scalar_end(s: &[u8], at: usize) -> Scan
-    requires { ⌜ (at < length (now s)) × Bare (getD (now s) at 0) ⌝ }
-    ensures { λ r. ⌜ Scalar (now (s .entry)) at (r .ok) (r .at) ⌝ }
-{
-    if s[at] > b'9' {
-        return word_end(s, at);
-    }
-    let first = minus_end(s, at);
-    numbers::number_end(s, first)
-}
-
 // Opens a container at its bracket, up to where its first item is due, and closes it where it is empty.
-fn open(s: &[u8], kinds: &mut [u8; 512], at: usize, depth: usize, kind: u8) -> Turn
+fn open(s: &[u8], kinds: &mut [u8; MAX_DEPTH], at: usize, depth: usize, kind: u8) -> Turn
     requires { ⌜ Ready (now s) (now kinds) depth at × Opens kind (getD (now s) at 0) ⌝ }
     ensures { λ r. ⌜ Turned (standing (now (s .entry)) 0 (now (kinds .entry)) depth at) (now (s .entry)) at (now (kinds .exit)) (r .ground) (r .at) (r .depth) (r .due) ⌝ }
 {
@@ -143,14 +96,14 @@ fn open(s: &[u8], kinds: &mut [u8; 512], at: usize, depth: usize, kind: u8) -> T
     }
     kinds[depth] = kind;
     let next = swar::blank_run(s, at + 1);
-    if words::byte_at(s, next, closing(kind)) {
+    if scalars::byte_at(s, next, closing(kind)) {
         return turn_to(true, next + 1, depth, AFTER);
     }
     turn_to(true, next, depth + 1, item_due(kind))
 }
 
 // Reads a value that is no string, up to its end or into a container.
-fn value(s: &[u8], kinds: &mut [u8; 512], at: usize, depth: usize) -> Turn
+fn value(s: &[u8], kinds: &mut [u8; MAX_DEPTH], at: usize, depth: usize) -> Turn
     requires { ⌜ Ready (now s) (now kinds) depth at × (getD (now s) at 0 ≡ 0x22 → ⊥) ⌝ }
     ensures { λ r. ⌜ Turned (standing (now (s .entry)) 0 (now (kinds .entry)) depth at) (now (s .entry)) at (now (kinds .exit)) (r .ground) (r .at) (r .depth) (r .due) ⌝ }
 {
@@ -161,7 +114,7 @@ fn value(s: &[u8], kinds: &mut [u8; 512], at: usize, depth: usize) -> Turn
     if b == b'[' {
         return open(s, kinds, at, depth, ARRAY);
     }
-    let scalar = scalar_end(s, at);
+    let scalar = scalars::scalar_end(s, at);
     turn_to(scalar.ok, scalar.at, depth, AFTER)
 }
 
@@ -170,14 +123,14 @@ fn colon_end(s: &[u8], at: usize) -> Scan
     requires { ⌜ at ≤ length (now s) ⌝ }
     ensures { λ r. ⌜ Led (now (s .entry)) at colon valueDue (r .ok) (r .at) ⌝ }
 {
-    if words::byte_at(s, at, b':') {
+    if scalars::byte_at(s, at, b':') {
         return Scan {
             ok: true,
             at: at + 1,
         };
     }
     let place = swar::blank_run(s, at);
-    if !words::byte_at(s, place, b':') {
+    if !scalars::byte_at(s, place, b':') {
         return Scan {
             ok: false,
             at: place,
@@ -190,11 +143,11 @@ fn colon_end(s: &[u8], at: usize) -> Scan
 }
 
 // Reads a string, where a value or a name is due, and the colon after a name.
-fn text(s: &[u8], rows: &[u8; 45], table: &[u64; 256], at: usize, depth: usize, due: u8) -> Turn
+fn text(s: &[u8], rows: &Rows, table: &[u64; 256], at: usize, depth: usize, due: u8) -> Turn
     requires { ⌜ RowTable (now rows) × (at < length (now s)) × (getD (now s) at 0 ≡ 0x22) × (due < 2) × Leads (now table) ⌝ }
     ensures { λ r. ⌜ Texted (now (s .entry)) at depth due (r .ground) (r .at) (r .depth) (r .due) ⌝ }
 {
-    let string = strings::string_end(s, rows, table, at + 1);
+    let string = characters::string_end(s, rows, table, at + 1);
     let end = string.at;
     if !string.ok {
         return turn_to(false, end, depth, AFTER);
@@ -207,7 +160,7 @@ fn text(s: &[u8], rows: &[u8; 45], table: &[u64; 256], at: usize, depth: usize, 
 }
 
 // Reads what follows a value: a comma, or the bracket that closes the container around it.
-fn separator(s: &[u8], kinds: &[u8; 512], at: usize, depth: usize) -> Turn
+fn separator(s: &[u8], kinds: &[u8; MAX_DEPTH], at: usize, depth: usize) -> Turn
     requires { ⌜ Ready (now s) (now kinds) depth at ⌝ }
     ensures { λ r. ⌜ Turned (standing (now (s .entry)) 2 (now (kinds .entry)) depth at) (now (s .entry)) at (now (kinds .entry)) (r .ground) (r .at) (r .depth) (r .due) ⌝ }
 {
@@ -229,9 +182,9 @@ fn separator(s: &[u8], kinds: &[u8; 512], at: usize, depth: usize) -> Turn
 // One turn, by what is due and then by the byte.
 pub fn take_turn(
     s: &[u8],
-    rows: &[u8; 45],
+    rows: &Rows,
     table: &[u64; 256],
-    kinds: &mut [u8; 512],
+    kinds: &mut [u8; MAX_DEPTH],
     at: usize,
     depth: usize,
     due: u8,

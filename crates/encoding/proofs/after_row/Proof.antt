@@ -11,29 +11,29 @@ use Rattle.encoding.proofs.after_row.Tie as tie
 mul-low : tie.Need-mul-low
 mul-low c = search needs
 
-add-low : tie.Need-add-low
-add-low c = search needs
+index-1-low : tie.Need-index-1-low
+index-1-low c = search needs
 
-element-copy-out-low : tie.Need-element-copy-out-low
-element-copy-out-low c = search needs
+index-2-low : tie.Need-index-2-low
+index-2-low c = search needs
 
 mul-high : tie.Need-mul-high
 mul-high c = search needs
 
-add-high : tie.Need-add-high
-add-high c = search needs
+index-1-high : tie.Need-index-1-high
+index-1-high c = search needs
 
-element-copy-out-high : tie.Need-element-copy-out-high
-element-copy-out-high c = search needs
+index-2-high : tie.Need-index-2-high
+index-2-high c = search needs
 
 mul-bytes : tie.Need-mul-bytes
 mul-bytes c = search needs
 
-add-bytes : tie.Need-add-bytes
-add-bytes c = search needs
+index-1-bytes : tie.Need-index-1-bytes
+index-1-bytes c = search needs
 
-element-copy-out-bytes : tie.Need-element-copy-out-bytes
-element-copy-out-bytes c = search needs
+index-2-bytes : tie.Need-index-2-bytes
+index-2-bytes c = search needs
 
 add-rest-of : tie.Need-add-rest-of
 add-rest-of c = search needs
@@ -59,14 +59,14 @@ after-row-spec =
     tie.close
     (tie.spec
     mul-low
-    add-low
-    element-copy-out-low
+    index-1-low
+    index-2-low
     mul-high
-    add-high
-    element-copy-out-high
+    index-1-high
+    index-2-high
     mul-bytes
-    add-bytes
-    element-copy-out-bytes
+    index-1-bytes
+    index-2-bytes
     add-rest-of
     sub-rest-of
     rest-of-requires

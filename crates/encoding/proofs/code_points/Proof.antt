@@ -5,8 +5,9 @@ use Prim.Native.Nat.{ℕ, _-_}
 use native.Mathlib.Omega.{arith}
 use lib.ListN.{length}
 use borrow.Author.Tests.{not-true, not-false}
+use Rattle.encoding.specs.RowTable.{narrow-below}
 use Rattle.encoding.specs.Utf8At.{reads-at, scanned-moved}
-use Rattle.encoding.specs.WideRun.{WideRun, over, narrow, broken}
+use Rattle.encoding.specs.WideRun.{WideRun, over, narrow, broken, wide-at}
 use Rattle.encoding.proofs.Runs.{run-broken, run-more}
 use Rattle.encoding.proofs.Scans.{at-wrong}
 use borrow.Author.Needs.{needs}
@@ -22,11 +23,14 @@ abbrev μ-loop : tie.MeasureT-loop
 loop-holds : tie.Need-loop-holds Inv-loop μ-loop
 loop-holds c = λ ok r q. q
 
-shared-slice-read-if1 : tie.Need-shared-slice-read-if1 Inv-loop μ-loop
-shared-slice-read-if1 c = search needs
+shared-slice-read-narrow : tie.Need-shared-slice-read-narrow Inv-loop μ-loop
+shared-slice-read-narrow c = search needs
+
+narrow-requires : tie.Need-narrow-requires Inv-loop μ-loop
+narrow-requires c κs = search needs
 
 returns : tie.Need-returns Inv-loop μ-loop
-returns c = c .before .before .before .loop .inv true _ (narrow (c .if1 .taken))
+returns c = c .before .before .before .before .loop .inv true _ (narrow (narrow-below (c .before .narrow .ensures) (c .if1 .taken)))
 
 shared-slice-read-row-of : tie.Need-shared-slice-read-row-of Inv-loop μ-loop
 shared-slice-read-row-of c = search needs
@@ -37,9 +41,9 @@ row-of-requires c κs = search needs
 returns-2 : tie.Need-returns-2 Inv-loop μ-loop
 returns-2 c =
     let at = c .before .before .before in
-    let inside = at .before .before .loop-test .taken in
-    at .before .before .before .loop .inv false _
-    (broken (record { inside = inside; from-80 = at .if1 .left }) (at-wrong inside (c .before .row-of .ensures .none (c .if2 .taken))))
+    let inside = at .before .before .before .loop-test .taken in
+    at .before .before .before .before .loop .inv false _
+    (broken (wide-at inside (at .before .narrow .ensures) (at .if1 .left)) (at-wrong inside (c .before .row-of .ensures .none (c .if2 .taken))))
 
 after-row-requires : tie.Need-after-row-requires Inv-loop μ-loop
 after-row-requires c κs = search needs
@@ -47,8 +51,8 @@ after-row-requires c κs = search needs
 returns-3 : tie.Need-returns-3 Inv-loop μ-loop
 returns-3 c =
     let at = c .before .before .before .before .before .before in
-    at .before .before .before .loop .inv _ _
-    (run-broken (record { inside = at .before .before .loop-test .taken; from-80 = at .if1 .left }) (c .before .before .after-row .ensures)
+    at .before .before .before .before .loop .inv _ _
+    (run-broken (wide-at (at .before .before .before .loop-test .taken) (at .before .narrow .ensures) (at .if1 .left)) (c .before .before .after-row .ensures)
     (not-true _ (c .if3 .taken)))
 
 loop-less : tie.Need-loop-less Inv-loop μ-loop
@@ -58,8 +62,8 @@ loop-again : tie.Need-loop-again Inv-loop μ-loop
 loop-again c =
     let at = c .before .before .before .before .before .before in
     λ ok r q.
-    at .before .before .before .loop .inv ok r
-    (run-more (record { inside = at .before .before .loop-test .taken; from-80 = at .if1 .left }) (c .before .before .after-row .ensures)
+    at .before .before .before .before .loop .inv ok r
+    (run-more (wide-at (at .before .before .before .loop-test .taken) (at .before .narrow .ensures) (at .if1 .left)) (c .before .before .after-row .ensures)
     (not-false _ (c .if3 .left)) q)
 
 returns-4 : tie.Need-returns-4 Inv-loop μ-loop
@@ -72,7 +76,8 @@ code-points-spec =
     Inv-loop
     μ-loop
     loop-holds
-    shared-slice-read-if1
+    shared-slice-read-narrow
+    narrow-requires
     returns
     shared-slice-read-row-of
     row-of-requires

@@ -16,26 +16,23 @@ abbrev μ-loop : tie.MeasureT-loop
 loop-holds : tie.Need-loop-holds Inv-loop μ-loop
 loop-holds c = (omega arith, omega arith, from-start (c .args .b))
 
-add-r : tie.Need-add-r Inv-loop μ-loop
-add-r c = search needs
-
 mul-if1 : tie.Need-mul-if1 Inv-loop μ-loop
 mul-if1 c = search needs
 
-add-if1 : tie.Need-add-if1 Inv-loop μ-loop
-add-if1 c = search needs
+index-1-if1 : tie.Need-index-1-if1 Inv-loop μ-loop
+index-1-if1 c = search needs
 
-element-copy-out-if1 : tie.Need-element-copy-out-if1 Inv-loop μ-loop
-element-copy-out-if1 c = search needs
+index-2-if1 : tie.Need-index-2-if1 Inv-loop μ-loop
+index-2-if1 c = search needs
 
 mul-if2 : tie.Need-mul-if2 Inv-loop μ-loop
 mul-if2 c = search needs
 
-add-if2 : tie.Need-add-if2 Inv-loop μ-loop
-add-if2 c = search needs
+index-1-if2 : tie.Need-index-1-if2 Inv-loop μ-loop
+index-1-if2 c = search needs
 
-element-copy-out-if2 : tie.Need-element-copy-out-if2 Inv-loop μ-loop
-element-copy-out-if2 c = search needs
+index-2-if2 : tie.Need-index-2-if2 Inv-loop μ-loop
+index-2-if2 c = search needs
 
 returns : tie.Need-returns Inv-loop μ-loop
 returns c =
@@ -52,6 +49,9 @@ returns-2 c =
     let row = at .before .loop .r in
     let below = at .loop-test .taken in
     row-under (at .before .before .args .b) row below (at .before .loop .inv .2) (omega (arith, low-at (at .before .before .pre) row below))
+
+add-r : tie.Need-add-r Inv-loop μ-loop
+add-r c = search needs
 
 loop-less : tie.Need-loop-less Inv-loop μ-loop
 loop-less c = search needs
@@ -76,15 +76,15 @@ row-of-spec =
     Inv-loop
     μ-loop
     loop-holds
-    add-r
     mul-if1
-    add-if1
-    element-copy-out-if1
+    index-1-if1
+    index-2-if1
     mul-if2
-    add-if2
-    element-copy-out-if2
+    index-1-if2
+    index-2-if2
     returns
     returns-2
+    add-r
     loop-less
     loop-again
     returns-3)

@@ -2,12 +2,11 @@
 -- Assumes nothing.
 use mathlib.Core.Path.{refl}
 use Rattle.encoding.specs.Utf8.{rows}
-use Rattle.encoding.specs.RowTable.{numbers}
 use Rattle.encoding.proofs.rows.Statement.{statement}
 use Rattle.encoding.proofs.rows.Tie as tie
 
 returns : tie.Need-returns
-unfolding rows numbers
+unfolding rows
 returns c = record { same = refl }
 
 pub rows-spec : {M : Type 1} → statement M

@@ -2,6 +2,7 @@
 -- ends it, as the end of the query does. The measure is what is left of the query. Assumes nothing.
 use Prim.Native.Nat.{_-_}
 use native.Mathlib.Omega.{arith}
+use Rattle.encoding.specs.RowTable.{narrow-below, narrow-above}
 use borrow.Author.Tests.{not-true, not-false}
 use borrow.Author.Needs.{needs}
 use lib.ListN.{length}
@@ -27,16 +28,19 @@ loop-holds c = short-begins (c .before .before .first-char .ensures) (not-false 
 name-char-requires : tie.Need-name-char-requires Inv-loop μ-loop
 name-char-requires c κs = search needs
 
-shared-slice-read-if3 : tie.Need-shared-slice-read-if3 Inv-loop μ-loop
-shared-slice-read-if3 c = search needs
+shared-slice-read-narrow : tie.Need-shared-slice-read-narrow Inv-loop μ-loop
+shared-slice-read-narrow c = search needs
+
+narrow-requires : tie.Need-narrow-requires Inv-loop μ-loop
+narrow-requires c κs = search needs
 
 returns-2 : tie.Need-returns-2 Inv-loop μ-loop
-returns-2 c = short-over (c .before .before .before .before .before .before .loop .inv)
-    (c .before .before .before .before .name-char .ensures) (not-true _ (c .before .before .if2 .taken)) (c .if3 .taken)
+returns-2 c = short-over (c .before .before .before .before .before .before .before .loop .inv)
+    (c .before .before .before .before .before .name-char .ensures) (not-true _ (c .before .before .before .if2 .taken)) (narrow-below (c .before .narrow .ensures) (c .if3 .taken))
 
 returns-3 : tie.Need-returns-3 Inv-loop μ-loop
-returns-3 c = short-wide-dead (c .before .before .before .before .before .before .loop .inv)
-    (c .before .before .before .before .name-char .ensures) (not-true _ (c .before .before .if2 .taken)) (c .if3 .left)
+returns-3 c = short-wide-dead (c .before .before .before .before .before .before .before .loop .inv)
+    (c .before .before .before .before .before .name-char .ensures) (not-true _ (c .before .before .before .if2 .taken)) (narrow-above (c .before .narrow .ensures) (c .if3 .left))
 
 loop-less : tie.Need-loop-less Inv-loop μ-loop
 loop-less c = let m = c .before .before .name-char .ensures .moved .on (not-false _ (c .if2 .left)) in let w =
@@ -58,7 +62,8 @@ shorthand-spec =
     returns
     loop-holds
     name-char-requires
-    shared-slice-read-if3
+    shared-slice-read-narrow
+    narrow-requires
     returns-2
     returns-3
     loop-less

@@ -6,7 +6,7 @@ use mathlib.Core.Path.{refl}
 use lib.ListN.{length}
 use Rattle.encoding.specs.RowTable.{RowTable}
 use Rattle.json.specs.Verdict.{textVerdict}
-use Rattle.validate.specs.Moves.{Leads}
+use Rattle.moves.specs.Moves.{Leads}
 use Rattle.validate.specs.Checks.{Reached, start-at, ready, next-at, refused-at, end-due, end-open, end-taken}
 use borrow.Author.Needs.{needs}
 use Rattle.validate.proofs.check_text.Statement.{statement}

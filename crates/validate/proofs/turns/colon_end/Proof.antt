@@ -2,7 +2,7 @@
 use borrow.Author.Tests.{not-true, not-false}
 use Rattle.json.specs.Machine.{colon}
 use Rattle.json.specs.Led.{led-here}
-use Rattle.validate.specs.Blanks.{at-colon, led-blanks}
+use Rattle.scalars.specs.Blanks.{at-colon, led-blanks}
 use Rattle.validate.specs.Texts.{colon-there, colon-missing}
 use borrow.Author.Needs.{needs}
 use Rattle.validate.proofs.turns.colon_end.Statement.{statement}
