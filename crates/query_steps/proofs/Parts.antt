@@ -317,7 +317,7 @@ module _ (q : List ℕ) (c : Control) (n k place : ℕ) (deep : Bool) (said : Re
       Reader.StepAt.taken f m (record {
         spaced = y;
         written = written-slice q (putSpaced y []) n m h (t .within) (sym (append-spaced y [] (drop m q)) ∙ text);
-        place = t .place ∙ sym (blanks-far s);
+        place = omega (arith, t .place, blanks-far s);
         step = g .step;
         bounded = t .bounded;
         on = omega (arith, s .from);
