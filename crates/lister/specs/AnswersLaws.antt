@@ -9,7 +9,7 @@ use Rattle.json.specs.Grammar.{Tree}
 use Rattle.json.specs.Verdict.{maxBytes}
 use Rattle.query.specs.Verdict.{stepsIn}
 use Rattle.select.specs.Ways.{spans}
-use Rattle.answers.specs.Lister.{pairsOf, Lists}
+use Rattle.answers.specs.Lister.{pairsOf}
 use Rattle.answers.specs.Within.{RecordIs}
 use Rattle.automaton.specs.Bounds.{spans-few, peak-few, stop-few}
 use Rattle.automaton.specs.Lists.{taken-record, lists-all, lists-left}
@@ -18,17 +18,13 @@ use Rattle.marks.specs.Advances.{Fits}
 use Rattle.pairs.specs.Pairs.{tally}
 use Rattle.pairs.specs.declared.Counts.{Counts}
 use Rattle.walk.specs.Walks.{Walks}
-use Rattle.lister.specs.Answers.{Admits, refusal, Countable, concluded}
+use Rattle.lister.specs.Answers.{Listed, Admits, refusal, Countable, concluded}
 use Rattle.lister.specs.declared.Answer.{Answer}
 use Rattle.lister.specs.declared.Input.{Input}
 
--- the answer's numbers are a lister's
-abbrev pub IsListed : (query «record» list after : List ℕ) → Answer → Type 0
-IsListed q r l a x = Lists q r l a (x .ground) (x .place) (x .pairs) (x .peak)
-
 module _ {q r : List ℕ} {x : Input} (admitted : Admits q r x) where
   -- refused
-  pub listed-none : {l : List ℕ} {a : Answer} → (x .ground ≡ 0 → ⊥) → a ≡ refusal (x .ground) (x .place) → IsListed q r l l a
+  pub listed-none : {l : List ℕ} {a : Answer} → (x .ground ≡ 0 → ⊥) → a ≡ refusal (x .ground) (x .place) → Listed q r l l a
   listed-none {l} h e = rw e (admitted .refuses h l)
 
   -- taken: the names lie in the query, and the record has a tree within the limits
@@ -78,10 +74,10 @@ module _ {q r : List ℕ} {x : Input} (admitted : Admits q r x) where
             stop-small = omega (arith, whole .stop-is, stop-few the-tree (stepsIn q) (pairsOf l));
           }
 
-      pub listed-all : {a : Answer} → a ≡ concluded (c .used) (c .peak) (c .stop) → IsListed q r l after a
+      pub listed-all : {a : Answer} → a ≡ concluded (c .used) (c .peak) (c .stop) → Listed q r l after a
       listed-all e = rw e (go (c .stop) refl)
         where
-          go : (m : ℕ) → c .stop ≡ m → IsListed q r l after (concluded (c .used) (c .peak) m)
+          go : (m : ℕ) → c .stop ≡ m → Listed q r l after (concluded (c .used) (c .peak) m)
           go zero f =
               lists-all q r l (admitted .query-taken z) (admitted .record-taken z) the-tree the-record (tally after (c .used) (c .peak) (c .stop)) whole f
           go (suc p) f =

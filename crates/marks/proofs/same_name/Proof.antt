@@ -20,7 +20,9 @@ sub-if1-2 : tie.Need-sub-if1-2 Inv-loop μ-loop
 sub-if1-2 c = search needs
 
 returns : tie.Need-returns Inv-loop μ-loop
-returns c = differs _ _ _ _ _ _ (c .before .pre .0 .1) (c .before .pre .1 .1) (c .if1 .taken)
+returns c =
+    let a = c .before .args in
+    differs _ (a .from) (a .to) _ (a .x) (a .y) (c .before .pre .0 .1) (c .before .pre .1 .1) (λ e. omega (arith, c .if1 .taken))
 
 loop-holds : tie.Need-loop-holds Inv-loop μ-loop
 loop-holds c = record { left = omega arith; right = omega arith; equal = c .if1 .left; same = refl }
