@@ -1,4 +1,4 @@
-// Runs a case and prints what comes of it.
+// Runs an input and prints what comes of it.
 use report::OUTPUT_SIZE;
 use report::print_picklist;
 
@@ -37,13 +37,10 @@ fn print_rest(out: &[u8; OUTPUT_SIZE], size: usize) {
     print(b" changed beyond)\n");
 }
 
-// Prints the name of a case and what comes of its input.
-pub fn run(cases: &mut u32, name: &[u8], input: &[u8]) {
-    print(name);
-    print(b":\n");
+// Prints what comes of an input.
+pub fn run(input: &[u8]) {
     let mut out = [OLD; OUTPUT_SIZE];
     let size = print_picklist(input, &mut out);
     print(&out[..size]);
     print_rest(&out, size);
-    *cases = std::num::wrapping_add_u32(*cases, 1);
 }
