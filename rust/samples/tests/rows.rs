@@ -72,6 +72,15 @@ const LIMITS: &[Row] = &[
     ("$.*", r#"[["]~59(x)\"]"],5]"#, 8, "0 0 2 1", " 1 68 69 70 rest 4"),
 ];
 
+/// Small dead containers, at the end of a block that begins behind the first one's bracket.
+const LEAPS: &[Row] = &[
+    ("$.*", "[[],~60( )[],5]", 64, "0 0 3 1", " 1 3 64 66 67 68 rest 58"),
+    ("$.*", "[[],~61( )[],5]", 64, "0 0 3 1", " 1 3 65 67 68 69 rest 58"),
+    ("$.*", "[[],~62( )[],5]", 64, "0 0 3 1", " 1 3 66 68 69 70 rest 58"),
+    ("$.*", "[[],[~70( )],[],[5],6]", 64, "0 0 5 1", " 1 3 4 76 77 79 80 83 84 85 rest 54"),
+    ("$.*", "[[],\"~70([)\",[],[],5]", 64, "0 0 5 1", " 1 3 4 76 77 79 80 82 83 84 rest 54"),
+];
+
 /// Offset and record, what the value finder answers, and the part that the value reader lends.
 const VALUES: &[(usize, &str, &str, &str)] = &[
     (1, r#"~32;{"a":[1,"]"]}~32;"#, "0 0 14", r#"{"a":[1,"]"]}"#),
@@ -102,9 +111,9 @@ fn the_output_begins_with_the_sample_rows() {
 }
 
 #[test]
-fn the_output_has_the_limits() {
+fn the_output_has_the_limits_and_the_leaps() {
     let runs = runs();
-    for row in LIMITS {
+    for row in LIMITS.iter().chain(LEAPS) {
         assert!(runs.iter().any(|run| run.is(row)), "{row:?}");
     }
 }
@@ -122,5 +131,5 @@ fn the_output_has_the_values() {
 
 #[test]
 fn the_number_of_cases() {
-    assert!(output(CASES).unwrap().ends_with("\n300 cases\n"));
+    assert!(output(CASES).unwrap().ends_with("\n342 cases\n"));
 }
