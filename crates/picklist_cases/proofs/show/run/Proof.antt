@@ -1,5 +1,5 @@
 -- What is printed is a part of the buffer. Assumes nothing.
-use Rattle.report.specs.PutLaws.{printed-part, printed-within}
+use Rattle.text.specs.PutLaws.{printed-part, printed-within}
 use borrow.Author.Needs.{needs}
 use Rattle.picklist_cases.proofs.show.run.Statement.{statement}
 use Rattle.picklist_cases.proofs.show.run.Tie as tie
