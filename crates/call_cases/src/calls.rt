@@ -1,7 +1,7 @@
 // Runs the value finder, the value reader and the block sorter on the record, and prints what comes of it.
-use crate::show::print;
-use crate::show::print_next;
 use cases::read_count;
+use cases::show::print;
+use cases::show::print_next;
 use woodcrock::find_value;
 use woodcrock::read_value;
 use woodcrock::sort_block;

@@ -2,25 +2,25 @@
 // answer; at the end stands the number of such lines. docs/SAMPLES.md has the lines.
 mod calls;
 mod lists;
-mod show;
 
 use calls::run_blocks;
 use calls::run_value;
 use cases::line_end;
 use cases::read_count;
 use cases::second_word;
+use cases::show::print;
+use cases::show::print_end;
+use cases::show::print_line;
 use cases::write_text;
 use lists::MAX_NUMBERS;
 use lists::run_query;
-use show::print;
-use show::print_number;
 ghost use mathlib.Core.Path.{_≡_};
 ghost use Prim.Native.Nat.{_≤_};
 ghost use lib.ListN.{length};
 ghost use Rattle.call_cases.specs.Sizes.{Fits};
 
 // The most bytes of a file, and one more.
-const FILE_ROOM: usize = 262144;
+const FILE_ROOM: usize = 98304;
 
 // The most bytes of a record, and one more.
 const RECORD_ROOM: usize = 4096;
@@ -112,12 +112,6 @@ fn run_calls(key: u8, text: &[u8], record: &[u8], state: State) -> State
     }
 }
 
-// Prints a line as it stands.
-fn print_line(line: &[u8]) {
-    print(line);
-    print(b"\n");
-}
-
 // Prints a line, and does what it says.
 fn run_line(line: &[u8], record: &mut [u8], state: State) -> State
     requires { ⌜ Fits (length (now «record»)) (state .size) (state .numbers) ⌝ }
@@ -137,16 +131,6 @@ fn run_line(line: &[u8], record: &mut [u8], state: State) -> State
     }
 }
 
-// Prints how many lines made calls, or that the last line could not be read.
-fn print_end(state: State) {
-    if state.good {
-        print_number(state.cases as u64);
-        print(b" cases\n");
-    } else {
-        print(b"bad line\n");
-    }
-}
-
 // Runs the lines of a file, up to the first that cannot be read.
 fn run_lines(input: &[u8], record: &mut [u8]) {
     let mut state = State {
@@ -161,7 +145,7 @@ fn run_lines(input: &[u8], record: &mut [u8]) {
         state = run_line(&input[at..end], record, state);
         at = if state.good { end + 1 } else { input.len() };
     }
-    print_end(state);
+    print_end(state.good, state.cases);
 }
 
 // Runs the file that is standard input.

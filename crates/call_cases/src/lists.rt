@@ -1,6 +1,6 @@
 // Runs a query on the record through both listers, and prints what comes of it.
-use crate::show::print;
-use crate::show::print_next;
+use cases::show::print;
+use cases::show::print_next;
 use cases::write_text;
 use woodcrock::Answer;
 use woodcrock::list_jumping;

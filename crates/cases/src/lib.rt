@@ -1,5 +1,6 @@
-// Reads files of cases: their lines, and the numbers and texts that stand on them (docs/SAMPLES.md has the notation).
+// Reads files of cases: their lines, and the numbers and texts that stand on them (docs/SAMPLES.md has the notation). Prints lines.
 mod pieces;
+pub mod show;
 
 use pieces::write_piece;
 ghost use Prim.Native.Nat.{_<_, _≤_};

@@ -4,12 +4,11 @@ mod show;
 
 use cases::line_end;
 use cases::second_word;
+use cases::show::print;
+use cases::show::print_end;
+use cases::show::print_line;
 use cases::write_text;
-use show::print;
-use show::print_number;
 use show::run;
-ghost use Prim.Native.Nat.{_≤_};
-ghost use lib.ListN.{length};
 
 // The most bytes of a file, and one more.
 const FILE_ROOM: usize = 16384;
@@ -40,12 +39,6 @@ fn run_text(text: &[u8], state: State) -> State {
     }
 }
 
-// Prints a line as it stands.
-fn print_line(line: &[u8]) {
-    print(line);
-    print(b"\n");
-}
-
 // Prints a line, and does what it says.
 fn run_line(line: &[u8], state: State) -> State {
     print_line(line);
@@ -63,16 +56,6 @@ fn run_line(line: &[u8], state: State) -> State {
     }
 }
 
-// Prints how many inputs were run, or that the last line could not be read.
-fn print_end(state: State) {
-    if state.good {
-        print_number(state.cases as u64);
-        print(b" cases\n");
-    } else {
-        print(b"bad line\n");
-    }
-}
-
 // Runs the lines of a file, up to the first that cannot be read.
 fn run_lines(file: &[u8]) {
     let mut state = State {
@@ -85,7 +68,7 @@ fn run_lines(file: &[u8]) {
         state = run_line(&file[at..end], state);
         at = if state.good { end + 1 } else { file.len() };
     }
-    print_end(state);
+    print_end(state.good, state.cases);
 }
 
 fn main() {

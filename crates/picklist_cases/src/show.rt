@@ -1,19 +1,11 @@
 // Runs an input and prints what comes of it.
+use cases::show::print;
+use cases::show::print_number;
 use report::OUTPUT_SIZE;
 use report::print_picklist;
 
 // What the buffer holds before a call, at each place.
 const OLD: u8 = b'.';
-
-// Prints bytes as they are.
-pub fn print(bytes: &[u8]) {
-    io::write_all(libc::STDOUT_FILENO, bytes);
-}
-
-// Prints a number in decimal.
-pub fn print_number(number: u64) {
-    io::print_decimal(libc::STDOUT_FILENO, number);
-}
 
 // How many bytes from `from` on are no longer what the buffer held.
 fn changed(out: &[u8; OUTPUT_SIZE], from: usize) -> u64 {
