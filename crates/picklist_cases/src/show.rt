@@ -1,19 +1,11 @@
-// Runs a case and prints what comes of it.
+// Runs an input and prints what comes of it.
+use cases::show::print;
+use cases::show::print_number;
 use report::OUTPUT_SIZE;
 use report::print_picklist;
 
 // What the buffer holds before a call, at each place.
 const OLD: u8 = b'.';
-
-// Prints bytes as they are.
-pub fn print(bytes: &[u8]) {
-    io::write_all(libc::STDOUT_FILENO, bytes);
-}
-
-// Prints a number in decimal.
-pub fn print_number(number: u64) {
-    io::print_decimal(libc::STDOUT_FILENO, number);
-}
 
 // How many bytes from `from` on are no longer what the buffer held.
 fn changed(out: &[u8; OUTPUT_SIZE], from: usize) -> u64 {
@@ -37,13 +29,10 @@ fn print_rest(out: &[u8; OUTPUT_SIZE], size: usize) {
     print(b" changed beyond)\n");
 }
 
-// Prints the name of a case and what comes of its input.
-pub fn run(cases: &mut u32, name: &[u8], input: &[u8]) {
-    print(name);
-    print(b":\n");
+// Prints what comes of an input.
+pub fn run(input: &[u8]) {
     let mut out = [OLD; OUTPUT_SIZE];
     let size = print_picklist(input, &mut out);
     print(&out[..size]);
     print_rest(&out, size);
-    *cases = std::num::wrapping_add_u32(*cases, 1);
 }

@@ -7,7 +7,8 @@ use borrow.Author.Tests.{le-leb, lt-leb}
 use lib.ListN.{length, length-take}
 use Rattle.select.specs.Ways.{Span}
 use Rattle.answers.specs.Lister.{pairsOf, writtenIf, written, pairs, Lists, inputVerdict, spansIn}
-use Rattle.report.specs.Output.{maxPairs, queryIn, recordIn, tooLong, report, reportOn, freshList, maxInput, picklistOutput}
+use Rattle.lines.specs.Lines.{maxPairs, queryIn, recordIn, tooLong, report}
+use Rattle.report.specs.Output.{reportOn, freshList, maxInput, picklistOutput}
 
 pub output-long : (s : List ℕ) → maxInput < length s → picklistOutput s ≡ tooLong
 unfolding picklistOutput
@@ -23,7 +24,7 @@ unfolding writtenIf
 written-fits zero ss l = omega (arith, length-take (pairsOf l) ss)
 written-fits (suc g) ss l = omega arith
 
-pub pairs-fit : (q r l : List ℕ) → pairs q r l ≤ pairsOf l
+pairs-fit : (q r l : List ℕ) → pairs q r l ≤ pairsOf l
 unfolding pairs written
 pairs-fit q r l = written-fits (inputVerdict q r .ground) (spansIn q r) l
 

@@ -1,13 +1,4 @@
-pub mod Decimal
-pub mod DecimalLaws
 pub mod Output
 pub mod Examples
-pub mod Put
-pub mod PutLaws
-pub mod DigitLaws
-pub mod SplitLaws
-pub mod OutputLaws
-pub mod SizeLaws
 pub mod AnswerLaws
-pub mod OutputSize
 pub mod PrintedNodes

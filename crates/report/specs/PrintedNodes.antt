@@ -11,9 +11,10 @@ use Rattle.encoding.specs.Verdict.{Verdict}
 use Rattle.select.specs.Ways.{Span}
 use Rattle.answers.specs.Lister.{pairsOf, orElse, inputVerdict, spansIn, leftOver, listVerdict, verdict}
 use Rattle.answers.specs.Lister.{writtenIf, written, flat, ground, place, pairs, listAfter}
-use Rattle.report.specs.Decimal.{decimal}
-use Rattle.report.specs.Output.{line, pairLine, pairLines, matches, reportOn, freshList}
-use Rattle.report.specs.OutputLaws.{report-taken}
+use Rattle.text.specs.Decimal.{decimal}
+use Rattle.lines.specs.Lines.{line, pairLine, pairLines, matches}
+use Rattle.report.specs.Output.{reportOn, freshList}
+use Rattle.lines.specs.LineLaws.{report-taken}
 
 -- a line for each node, numbered from n on
 unfoldable pub nodeLines : (n : ℕ) → List Span → List ℕ

@@ -64,8 +64,9 @@ fn random_input(random: &mut Random) -> Vec<u8> {
 
 /// The cases, an input of which much is left unread, and bytes that are no UTF-8.
 fn fixed_inputs() -> Vec<Vec<u8>> {
-    let cases = samples::picklist::cases().into_iter().map(|case| case.input.into_bytes());
-    cases.chain([vec![b' '; 3 * MAX_INPUT], b"$\n\xFF".to_vec()]).collect()
+    let cases =
+        samples::picklist::inputs(samples::picklist::CASES).expect("cases that can be read");
+    cases.into_iter().chain([vec![b' '; 3 * MAX_INPUT], b"$\n\xFF".to_vec()]).collect()
 }
 
 /// Compares what the program prints for an input, and gives back what was expected.

@@ -4,12 +4,13 @@
 use std::path::{Path, PathBuf};
 use std::{env, fs, process::ExitCode};
 
-/// What makes an output.
-type Maker = fn() -> String;
-
 /// The files of the repository, and what each has to hold.
-const FILES: [(&str, Maker); 2] =
-    [(samples::OUTPUT, samples::output), (samples::picklist::OUTPUT, samples::picklist::output)];
+fn files() -> [(&'static str, Result<String, String>); 2] {
+    [
+        (samples::OUTPUT, samples::output(samples::CASES)),
+        (samples::picklist::OUTPUT, samples::picklist::output(samples::picklist::CASES)),
+    ]
+}
 
 /// A file of the repository.
 fn place(file: &str) -> PathBuf {
@@ -38,8 +39,8 @@ fn main() -> ExitCode {
             return ExitCode::from(2);
         }
     };
-    for (file, output) in FILES {
-        if let Err(fault) = job(file, output()) {
+    for (file, output) in files() {
+        if let Err(fault) = output.and_then(|output| job(file, output)) {
             eprintln!("{fault}");
             return ExitCode::FAILURE;
         }
@@ -51,8 +52,8 @@ fn main() -> ExitCode {
 mod tests {
     #[test]
     fn the_files_of_the_repository_are_what_the_independent_implementation_gives() {
-        for (file, output) in super::FILES {
-            assert_eq!(super::check(file, output()), Ok(()));
+        for (file, output) in super::files() {
+            assert_eq!(super::check(file, output.unwrap()), Ok(()));
         }
     }
 }

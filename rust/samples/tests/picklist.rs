@@ -1,6 +1,6 @@
 //! Blocks of the output of `picklist_cases`, written by hand from document 01.
 
-use samples::picklist::output;
+use samples::picklist::{output, CASES};
 
 /// The name of a case, and what the program prints for its input.
 const BLOCKS: &[(&str, &str)] = &[
@@ -44,11 +44,15 @@ fn full(first: usize) -> String {
     format!("matches 256\n{}", (0..256).map(line).collect::<String>())
 }
 
-/// Asserts that the output has the block of a case, after a whole line.
+/// Asserts that the output has the case of a name, once, with this text below its input.
 fn has(name: &str, text: &str) {
-    let block = format!("\n{name}:\n{text}({} bytes, 0 changed beyond)\n", text.len());
-    let output = format!("\n{}", output());
-    assert_eq!(output.matches(&block).count(), 1, "{block}");
+    let output = output(CASES).unwrap();
+    let [_, case] = output.split(&format!("\n# {name}\ninput")).collect::<Vec<_>>()[..] else {
+        panic!("{name}");
+    };
+    let (_, below) = case.split_once('\n').unwrap();
+    let block = format!("{text}({} bytes, 0 changed beyond)\n", text.len());
+    assert!(below.starts_with(&block), "{name}: {block}");
 }
 
 #[test]
@@ -66,5 +70,5 @@ fn a_list_that_is_full() {
 #[test]
 fn every_case_has_a_block_here() {
     let cases = BLOCKS.len() + 2;
-    assert!(output().ends_with(&format!("\n{cases} cases\n")));
+    assert!(output(CASES).unwrap().ends_with(&format!("\n{cases} cases\n")));
 }

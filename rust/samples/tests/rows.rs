@@ -1,87 +1,135 @@
-//! Lines of the output, written by hand from document 01.
+//! Answers in the output of `samples`, written by hand from document 01.
 
-use samples::output;
+use samples::{notation, output, CASES};
 
-/// The sample rows: the name of the case, the four answers, and the list afterwards.
-const ROWS: &[(&str, &str, &str)] = &[
-    ("`$` on `7`", "0 0 1 0", "0 1 7777 7777"),
-    (r#"`$.M` on `{"M":1,"M":2}`"#, "0 0 2 0", "5 6 11 12 7777"),
-    (r#"`$..a..b` on `{"a":{"a":{"b":1}}}`"#, "0 0 1 1", "15 16 7777 7777"),
-    ("`$..*` on `[3,[4]]`", "0 0 3 0", "1 2 3 6 4 5 7777 7777"),
-    ("`$.*` on `[3,[4]]`", "7 3 1 0", "1 2 7777"),
-    (r#"`$ ['a' ]` on `{"a":[]}`"#, "0 0 1 1", "5 7 7777 7777"),
-    (r#"`$.lot` on `{"x":"lot\":9}"}`"#, "0 0 0 0", "7777 7777"),
-    ("`` on `7`", "2 0 0 0", "7777 7777"),
-    ("`$.a ` on `7`", "2 4 0 0", "7777 7777"),
-    ("`$[0]` on `7`", "2 2 0 0", "7777 7777"),
-    ("`` on `[1,]`", "2 0 0 0", "7777 7777"),
-    ("`$.a ` on `[1,]`", "2 4 0 0", "7777 7777"),
-    ("`$[0]` on `[1,]`", "2 2 0 0", "7777 7777"),
-    ("`$` on `[1,]`", "5 3 0 0", "7777 7777"),
-    ("`$` on `01`", "5 1 0 0", "7777 7777"),
-    ("`$` on `tru`", "5 3 0 0", "7777 7777"),
-    ("`$` on ``", "5 0 0 0", "7777 7777"),
+/// A query of the output with what stands above and below it: the record and the numbers of the
+/// list, as they are written, and the line of each walk.
+struct Run {
+    record: String,
+    numbers: String,
+    query: String,
+    walks: [String; 2],
+}
+
+fn runs() -> Vec<Run> {
+    let output = output(CASES).unwrap();
+    let (mut record, mut numbers, mut runs) = (String::new(), String::new(), Vec::new());
+    let mut lines = output.lines();
+    while let Some(line) = lines.next() {
+        match notation::words(line) {
+            ("record", text) => record = text.to_string(),
+            ("list", text) => numbers = text.to_string(),
+            ("query", text) => runs.push(Run {
+                record: record.clone(),
+                numbers: numbers.clone(),
+                query: text.to_string(),
+                walks: [(); 2].map(|()| lines.next().unwrap().to_string()),
+            }),
+            _ => {}
+        }
+    }
+    runs
+}
+
+/// Query, record, numbers of the list; the four answers, and the list afterwards.
+type Row = (&'static str, &'static str, usize, &'static str, &'static str);
+
+/// The sample rows, in the order of document 01.
+const ROWS: &[Row] = &[
+    ("$", "7", 4, "0 0 1 0", " 0 1 rest 2"),
+    ("$.M", r#"{"M":1,"M":2}"#, 5, "0 0 2 0", " 5 6 11 12 rest 1"),
+    ("$..a..b", r#"{"a":{"a":{"b":1}}}"#, 4, "0 0 1 1", " 15 16 rest 2"),
+    ("$..*", "[3,[4]]", 8, "0 0 3 0", " 1 2 3 6 4 5 rest 2"),
+    ("$.*", "[3,[4]]", 3, "7 3 1 0", " 1 2 rest 1"),
+    ("$ ['a' ]", r#"{"a":[]}"#, 4, "0 0 1 1", " 5 7 rest 2"),
+    ("$.lot", r#"{"x":"lot\":9}"}"#, 2, "0 0 0 0", " rest 2"),
+    ("", "7", 2, "2 0 0 0", " rest 2"),
+    ("$.a~32;", "7", 2, "2 4 0 0", " rest 2"),
+    ("$[0]", "7", 2, "2 2 0 0", " rest 2"),
+    ("", "[1,]", 2, "2 0 0 0", " rest 2"),
+    ("$.a~32;", "[1,]", 2, "2 4 0 0", " rest 2"),
+    ("$[0]", "[1,]", 2, "2 2 0 0", " rest 2"),
+    ("$", "[1,]", 2, "5 3 0 0", " rest 2"),
+    ("$", "01", 2, "5 1 0 0", " rest 2"),
+    ("$", "tru", 2, "5 3 0 0", " rest 2"),
+    ("$", "", 2, "5 0 0 0", " rest 2"),
 ];
 
-/// A line for each limit, both sides.
-const LIMITS: &[(&str, &str, &str)] = &[
-    ("a query of 1024 bytes that ends in `.a`", "0 0 1 0", "5 6 7777"),
-    ("a query of 1025 bytes that ends in `.a`", "1 1024 0 0", "7777 7777 7777"),
-    (r#"`$..a` on `{"a":7}` in 511 arrays"#, "0 0 1 0", "516 517 7777 7777"),
-    (r#"`$..a` on `{"a":7}` in 512 arrays"#, "6 512 0 0", "7777 7777 7777 7777"),
-    ("512 opening brackets before ``", "5 512 0 0", "7777 7777"),
-    ("513 opening brackets before ``", "6 512 0 0", "7777 7777"),
-    (r#"`$.*` on `{"a":1,"b":[2],"c":"3"}`"#, "0 0 3 1", "5 6 11 14 19 22"),
-    (r#"`$.*` on `{"a":1,"b":[2],"c":"3"}`"#, "7 19 2 0", "5 6 11 14"),
-    ("a bracket closes at 63, `$.*`", "0 0 2 1", "1 64 65 66 7777 7777 7777 7777"),
-    ("a bracket closes at 64, `$.*`", "0 0 2 1", "1 65 66 67 7777 7777 7777 7777"),
-    ("a string ends at 63, `$.*`", "0 0 2 1", "1 65 66 67 7777 7777 7777 7777"),
-    ("a string ends at 64, `$.*`", "0 0 2 1", "1 66 67 68 7777 7777 7777 7777"),
-    ("a backslash at 63, `$.*`", "0 0 2 1", "1 68 69 70 7777 7777 7777 7777"),
+/// A row for each limit, both sides.
+const LIMITS: &[Row] = &[
+    ("$~1021( ).a", r#"{"a":1}"#, 3, "0 0 1 0", " 5 6 rest 1"),
+    ("$~1022( ).a", r#"{"a":1}"#, 3, "1 1024 0 0", " rest 3"),
+    ("$..a", r#"~511([){"a":7}~511(])"#, 4, "0 0 1 0", " 516 517 rest 2"),
+    ("$..a", r#"~512([){"a":7}~512(])"#, 4, "6 512 0 0", " rest 4"),
+    ("$..*", "~512([)", 2, "5 512 0 0", " rest 2"),
+    ("$..*", "~513([)", 2, "6 512 0 0", " rest 2"),
+    ("$.*", r#"{"a":1,"b":[2],"c":"3"}"#, 6, "0 0 3 1", " 5 6 11 14 19 22 rest 0"),
+    ("$.*", r#"{"a":1,"b":[2],"c":"3"}"#, 4, "7 19 2 0", " 5 6 11 14 rest 0"),
+    ("$.*", "[[~61( )],5]", 8, "0 0 2 1", " 1 64 65 66 rest 4"),
+    ("$.*", "[[~62( )],5]", 8, "0 0 2 1", " 1 65 66 67 rest 4"),
+    ("$.*", r#"[["]~59(x)"],5]"#, 8, "0 0 2 1", " 1 65 66 67 rest 4"),
+    ("$.*", r#"[["]~60(x)"],5]"#, 8, "0 0 2 1", " 1 66 67 68 rest 4"),
+    ("$.*", r#"[["]~59(x)\"]"],5]"#, 8, "0 0 2 1", " 1 68 69 70 rest 4"),
+];
+
+/// Small dead containers, at the end of a block that begins behind the first one's bracket.
+const LEAPS: &[Row] = &[
+    ("$.*", "[[],~60( )[],5]", 64, "0 0 3 1", " 1 3 64 66 67 68 rest 58"),
+    ("$.*", "[[],~61( )[],5]", 64, "0 0 3 1", " 1 3 65 67 68 69 rest 58"),
+    ("$.*", "[[],~62( )[],5]", 64, "0 0 3 1", " 1 3 66 68 69 70 rest 58"),
+    ("$.*", "[[],[~70( )],[],[5],6]", 64, "0 0 5 1", " 1 3 4 76 77 79 80 83 84 85 rest 54"),
+    ("$.*", "[[],\"~70([)\",[],[],5]", 64, "0 0 5 1", " 1 3 4 76 77 79 80 82 83 84 rest 54"),
 ];
 
 /// Offset and record, what the value finder answers, and the part that the value reader lends.
 const VALUES: &[(usize, &str, &str, &str)] = &[
-    (1, r#" {"a":[1,"]"]} "#, "0 0 14", r#"{"a":[1,"]"]}"#),
-    (6, r#" {"a":[1,"]"]} "#, "0 0 13", r#"[1,"]"]"#),
-    (2, r#" {"a":[1,"]"]} "#, "8 2 0", ""),
-    (12, r#" {"a":[1,"]"]} "#, "8 12 0", ""),
-    (99, r#" {"a":[1,"]"]} "#, "8 99 0", ""),
+    (1, r#"~32;{"a":[1,"]"]}~32;"#, "0 0 14", r#"{"a":[1,"]"]}"#),
+    (6, r#"~32;{"a":[1,"]"]}~32;"#, "0 0 13", r#"[1,"]"]"#),
+    (2, r#"~32;{"a":[1,"]"]}~32;"#, "8 2 0", ""),
+    (12, r#"~32;{"a":[1,"]"]}~32;"#, "8 12 0", ""),
+    (99, r#"~32;{"a":[1,"]"]}~32;"#, "8 99 0", ""),
     (1, "[1,]", "5 3 0", ""),
 ];
 
-/// The line of a case; both walks have the same answers.
-fn line((name, answers, left): &(&str, &str, &str)) -> String {
-    format!("{name}: plain {answers} list {left}; jumping {answers} list {left}")
+impl Run {
+    /// Whether this is the run of a row; both walks have the same answers.
+    fn is(&self, (query, record, numbers, answers, left): &Row) -> bool {
+        let walk = |name: &str| format!("  {name} {answers} list{left}");
+        let lent = (self.query.as_str(), self.record.as_str(), self.numbers.as_str());
+        lent == (query, record, &numbers.to_string())
+            && self.walks == [walk("plain"), walk("jumping")]
+    }
 }
 
 #[test]
 fn the_output_begins_with_the_sample_rows() {
-    let output = output();
-    assert!(output.lines().zip(ROWS).all(|(standing, row)| standing == line(row)), "{output}");
+    let runs = runs();
+    for (run, row) in runs.iter().zip(ROWS) {
+        assert!(run.is(row), "{row:?}");
+    }
+    assert!(runs.len() > ROWS.len());
 }
 
 #[test]
-fn the_output_has_the_limits() {
-    let output = output();
-    for row in LIMITS {
-        assert!(output.lines().any(|standing| standing == line(row)), "{row:?}");
+fn the_output_has_the_limits_and_the_leaps() {
+    let runs = runs();
+    for row in LIMITS.iter().chain(LEAPS) {
+        assert!(runs.iter().any(|run| run.is(row)), "{row:?}");
     }
 }
 
 #[test]
 fn the_output_has_the_values() {
-    let output = output();
+    let output = output(CASES).unwrap();
     for (offset, record, answers, value) in VALUES {
-        let name = format!("the value at {offset} of `{record}`");
-        let line = format!("{name}: finder {answers}; reader `{value}`");
-        assert!(output.lines().any(|standing| standing == line), "{line}");
+        let (_, after) = output.split_once(&format!("\nrecord {record}\nvalue ")).unwrap();
+        let (values, _) = after.split_once("\n\n").unwrap();
+        let lines = format!("{offset}\n  finder {answers}\n  reader `{value}`");
+        assert!(format!("{values}\n").contains(&format!("{lines}\n")), "{record} {lines}");
     }
 }
 
 #[test]
-fn a_line_for_each_case_and_their_number() {
-    let output = output();
-    let cases = output.lines().count() - 1;
-    assert_eq!(output.lines().last(), Some(format!("{cases} cases").as_str()));
+fn the_number_of_cases() {
+    assert!(output(CASES).unwrap().ends_with("\n342 cases\n"));
 }

@@ -1,27 +1,14 @@
 //! The files that are made of the suite.
 //!
-//! # The input of the program that runs the vectors
-//!
-//! The first line is the number of cases. Each case is a header line, a body and a line feed.
-//! The header has decimal numbers with one space between them:
-//!
-//! - the bytes of the name, of the query and of the record;
-//! - the four numbers that a lister has to answer: ground, place, pairs, peak;
-//! - for each pair the first byte and the byte after the last.
-//!
-//! The body has the bytes of the name, of the query and of the record, one after the other with
-//! nothing between them; the query and the record may hold line feeds. No case needs more than 64
-//! numbers in its list.
-//!
-//! # Its output
-//!
-//! For each case, in order, the name and `: ok`; then one line with the number of cases, how many
-//! are listed, how many are refused, and how many were wrong.
+//! The program that runs the vectors reads a file of cases (`docs/SAMPLES.md` has its notation): for
+//! each vector its name as a note, its record and its query. What it has to print is that file with
+//! the answers of both walks below each query, and the number of cases.
 
 use crate::case::{case, Case, Sort, REASONS};
 use crate::suite;
 use crate::value::Value;
 use oracle::NO_GROUND;
+use samples::{notation, walks_with};
 
 /// A file of the repository: its path from the top folder, and its contents.
 pub struct File {
@@ -29,8 +16,9 @@ pub struct File {
     pub contents: String,
 }
 
-/// The longest list that a case may need.
-const MAX_PAIRS: usize = 32;
+/// The numbers of the list that each case is lent, and the most pairs that it may need.
+const NUMBERS: usize = 64;
+const MAX_PAIRS: usize = NUMBERS / 2;
 
 /// Makes every file from the text of the suite, or says what is wrong with the suite.
 pub fn files(text: &[u8]) -> Result<Vec<File>, String> {
@@ -50,26 +38,34 @@ pub fn files(text: &[u8]) -> Result<Vec<File>, String> {
     ])
 }
 
+/// The first lines of the file of cases.
+fn head() -> String {
+    format!("# The published vectors. The generator in rust/vectors writes this file.\n\nlist {NUMBERS}\n")
+}
+
+/// The lines of a case.
+fn lines(case: &Case) -> String {
+    let Case { name, query, record, .. } = case;
+    let line = |word: &str, text: &str| match text {
+        "" => format!("{word}\n"),
+        _ => format!("{word} {}\n", notation::text(text)),
+    };
+    format!("\n# {name}\n{}{}", line("record", record), line("query", query))
+}
+
 /// The input of the program.
 fn input(cases: &[Case]) -> String {
-    let mut input = format!("{}\n", cases.len());
-    for Case { name, query, record, answer, pairs, .. } in cases {
-        input += &format!("{} {} {}", name.len(), query.len(), record.len());
-        input += &format!(" {} {} {} {}", answer.ground, answer.place, answer.pairs, answer.peak);
-        for (start, end) in pairs {
-            input += &format!(" {start} {end}");
-        }
-        input += &format!("\n{name}{query}{record}\n");
-    }
-    input
+    head() + &cases.iter().map(lines).collect::<String>()
 }
 
 /// The output of the program.
 fn expected(cases: &[Case]) -> String {
-    let lines: String = cases.iter().map(|case| format!("{}: ok\n", case.name)).collect();
-    let listed = cases.iter().filter(|case| case.answer.ground == NO_GROUND).count();
-    let (all, refused) = (cases.len(), cases.len() - listed);
-    format!("{lines}{all} cases: {listed} listed, {refused} refused, 0 wrong\n")
+    let answers = |Case { answer, pairs, .. }: &Case| {
+        let numbers = pairs.iter().flat_map(|&(start, end)| [start as u32, end as u32]);
+        walks_with(answer, numbers, NUMBERS)
+    };
+    let runs: String = cases.iter().map(|case| lines(case) + &answers(case)).collect();
+    format!("{}{runs}{} cases\n", head(), cases.len())
 }
 
 /// What becomes of a vector, in words.

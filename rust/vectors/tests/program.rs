@@ -1,11 +1,7 @@
-//! The input of the program that runs the vectors, read as that program reads it, and its output.
+//! The input of the program that runs the vectors, run by the independent implementation, and its output.
 
-use oracle::{list, Answer};
 use std::fs;
 use vectors::{files, File, SUITE};
-
-/// What the list holds before a call, at each place.
-const OLD: u32 = 0xA5A5_A5A5;
 
 fn suite() -> String {
     fs::read_to_string(format!("{}/../../{SUITE}", env!("CARGO_MANIFEST_DIR"))).unwrap()
@@ -15,52 +11,11 @@ fn file<'a>(files: &'a [File], path: &str) -> &'a str {
     &files.iter().find(|file| file.path == path).unwrap().contents
 }
 
-/// Takes this many bytes off the input.
-fn take<'a>(input: &mut &'a [u8], bytes: usize) -> &'a [u8] {
-    let (taken, rest) = input.split_at(bytes);
-    *input = rest;
-    taken
-}
-
-/// Takes a line of decimal numbers off the input.
-fn numbers(input: &mut &[u8]) -> Vec<u32> {
-    let end = input.iter().position(|&byte| byte == b'\n').unwrap();
-    let line = String::from_utf8(take(input, end).to_vec()).unwrap();
-    assert_eq!(take(input, 1), b"\n");
-    line.split(' ').map(|number| number.parse().unwrap()).collect()
-}
-
-/// Runs one case: whether it was refused, and the line that is printed.
-fn run_case(input: &mut &[u8]) -> (bool, String) {
-    let header = numbers(input);
-    let name = String::from_utf8(take(input, header[0] as usize).to_vec()).unwrap();
-    let query = take(input, header[1] as usize);
-    let record = take(input, header[2] as usize);
-    assert_eq!(take(input, 1), b"\n");
-    let mut lent = [OLD; 64];
-    let answer = list(query, record, &mut lent);
-    let [ground, place, pairs, peak] = header[3..7].try_into().unwrap();
-    assert_eq!(answer, Answer { ground, place, pairs, peak }, "{name}");
-    assert_eq!(header.len(), 7 + 2 * pairs as usize);
-    assert!(lent.iter().eq(header[7..].iter().chain(&[OLD; 64][2 * pairs as usize..])), "{name}");
-    (ground != 0, format!("{name}: ok\n"))
-}
-
 #[test]
 fn the_program_prints_what_is_expected() {
     let files = files(suite().as_bytes()).unwrap();
-    let mut input = file(&files, "crates/vectors/stdin").as_bytes();
-    let cases = numbers(&mut input)[0];
-    let (mut refusals, mut output) = (0, String::new());
-    for _ in 0..cases {
-        let (refused, line) = run_case(&mut input);
-        refusals += u32::from(refused);
-        output += &line;
-    }
-    assert!(input.is_empty());
-    let listed = cases - refusals;
-    output += &format!("{cases} cases: {listed} listed, {refusals} refused, 0 wrong\n");
-    assert_eq!(output, file(&files, "crates/vectors/stdout"));
+    let output = samples::output(file(&files, "crates/vectors/stdin"));
+    assert_eq!(output.as_deref(), Ok(file(&files, "crates/vectors/stdout")));
 }
 
 /// A suite of one vector.

@@ -1,6 +1,6 @@
 -- What is printed is a part of the buffer. Assumes nothing.
 use borrow.Author.Needs.{needs}
-use Rattle.report.specs.PutLaws.{printed-part, printed-within}
+use Rattle.text.specs.PutLaws.{printed-part, printed-within}
 use Rattle.picklist.proofs.main.Statement.{statement}
 use Rattle.picklist.proofs.main.Tie as tie
 

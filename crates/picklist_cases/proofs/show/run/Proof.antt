@@ -1,17 +1,8 @@
 -- What is printed is a part of the buffer. Assumes nothing.
+use Rattle.text.specs.PutLaws.{printed-part, printed-within}
 use borrow.Author.Needs.{needs}
-use Rattle.report.specs.PutLaws.{printed-part, printed-within}
 use Rattle.picklist_cases.proofs.show.run.Statement.{statement}
 use Rattle.picklist_cases.proofs.show.run.Tie as tie
-
-print-requires : tie.Need-print-requires
-print-requires c κs = search needs
-
-slice-aggregate-print : tie.Need-slice-aggregate-print
-slice-aggregate-print c = search needs
-
-print-requires-2 : tie.Need-print-requires-2
-print-requires-2 c κs = search needs
 
 print-picklist-requires : tie.Need-print-picklist-requires
 print-picklist-requires c κs = search needs
@@ -19,17 +10,14 @@ print-picklist-requires c κs = search needs
 array-share-prefix-out : tie.Need-array-share-prefix-out
 array-share-prefix-out c = printed-within (c .print-picklist .ensures)
 
-slice-aggregate-print-2 : tie.Need-slice-aggregate-print-2
-slice-aggregate-print-2 c = printed-part (c .before .print-picklist .ensures)
+slice-aggregate-print : tie.Need-slice-aggregate-print
+slice-aggregate-print c = printed-part (c .before .print-picklist .ensures)
 
-print-requires-3 : tie.Need-print-requires-3
-print-requires-3 c κs = search needs
+print-requires : tie.Need-print-requires
+print-requires c κs = search needs
 
 print-rest-requires : tie.Need-print-rest-requires
 print-rest-requires c κs = search needs
-
-wrapping-add-u32-requires : tie.Need-wrapping-add-u32-requires
-wrapping-add-u32-requires c κs = search needs
 
 returns : tie.Need-returns
 returns c = search needs
@@ -38,13 +26,9 @@ pub run-spec : {M : Type 1} → statement M
 run-spec =
     tie.close
     (tie.spec
-    print-requires
-    slice-aggregate-print
-    print-requires-2
     print-picklist-requires
     array-share-prefix-out
-    slice-aggregate-print-2
-    print-requires-3
+    slice-aggregate-print
+    print-requires
     print-rest-requires
-    wrapping-add-u32-requires
     returns)

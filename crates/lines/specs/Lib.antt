@@ -1,0 +1,4 @@
+pub mod Lines
+pub mod SplitLaws
+pub mod LineLaws
+pub mod SizeLaws

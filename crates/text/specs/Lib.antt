@@ -1,0 +1,5 @@
+pub mod Decimal
+pub mod DecimalLaws
+pub mod Put
+pub mod PutLaws
+pub mod DigitLaws

@@ -1,2 +1,0 @@
--- The specifications of `vectors`: what its functions promise of the places that they answer.
-pub mod Places
