@@ -8,7 +8,6 @@ use calls::run_value;
 use cases::line_end;
 use cases::read_count;
 use cases::second_word;
-use cases::show::print;
 use cases::show::print_end;
 use cases::show::print_line;
 use cases::write_text;
@@ -18,9 +17,6 @@ ghost use mathlib.Core.Path.{_≡_};
 ghost use Prim.Native.Nat.{_≤_};
 ghost use lib.ListN.{length};
 ghost use Rattle.call_cases.specs.Sizes.{Fits};
-
-// The most bytes of a file, and one more.
-const FILE_ROOM: usize = 98304;
 
 // The most bytes of a record, and one more.
 const RECORD_ROOM: usize = 4096;
@@ -148,14 +144,8 @@ fn run_lines(input: &[u8], record: &mut [u8]) {
     print_end(state.good, state.cases);
 }
 
-// Runs the file that is standard input.
-pub fn run_input() {
-    let mut file = [0u8; FILE_ROOM];
+// Runs a file.
+pub fn run_file(file: &[u8]) {
     let mut record = [0u8; RECORD_ROOM];
-    let size = io::read_full(libc::STDIN_FILENO, &mut file);
-    if size == FILE_ROOM {
-        print(b"too long\n");
-        return;
-    }
-    run_lines(&file[..size], &mut record);
+    run_lines(file, &mut record);
 }

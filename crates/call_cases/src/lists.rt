@@ -57,10 +57,8 @@ fn print_list(list: &[u32]) {
 
 // Prints the four answers of a lister, and its list after the call.
 fn print_answer(answer: Answer, list: &[u32]) {
-    print_next(wide(answer.ground));
-    print_next(wide(answer.place));
-    print_next(wide(answer.pairs));
-    print_next(wide(answer.peak));
+    let four = [answer.ground, answer.place, answer.pairs, answer.peak];
+    print_numbers(&four);
     print_list(list);
     print(b"\n");
 }

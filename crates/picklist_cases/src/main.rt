@@ -4,13 +4,12 @@ mod show;
 
 use cases::line_end;
 use cases::second_word;
-use cases::show::print;
 use cases::show::print_end;
 use cases::show::print_line;
 use cases::write_text;
 use show::run;
 
-// The most bytes of a file, and one more.
+// The most bytes of the file.
 const FILE_ROOM: usize = 16384;
 
 // The most bytes of an input, and one more: an input may have one byte more than the program takes.
@@ -74,9 +73,5 @@ fn run_lines(file: &[u8]) {
 fn main() {
     let mut file = [0u8; FILE_ROOM];
     let size = io::read_full(libc::STDIN_FILENO, &mut file);
-    if size == FILE_ROOM {
-        print(b"too long\n");
-        return;
-    }
     run_lines(&file[..size]);
 }
