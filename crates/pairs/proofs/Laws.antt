@@ -5,14 +5,23 @@ use mathlib.Core.List.{List}
 use Prim.Native.Nat.{ℕ, zero, suc, _+_, _-_, _*_, _/_, _≤_, _<_, max}
 use native.Mathlib.Numerals.{add-one}
 use native.Mathlib.Omega.{arith}
-use borrow.Author.Tests.{lt-ltb, le-ltb}
+use borrow.Author.Tests.{lt-ltb, le-ltb, ltb-true, ltb-false}
 use lib.Dec.{ltb}
 use lib.ListN.{length, set}
 use lib.Seq.{set-out}
 use Rattle.answers.specs.Lister.{pairsOf}
 use Rattle.automaton.specs.Tally.{raiseFrom, raised}
 use Rattle.automaton.specs.Halves.{beginIfRoom, beginIfPicked, beginFrom, begin, waitingIfRoom, waitingIfPicked, waitingFrom, waiting, endPair}
-use Rattle.pairs.specs.Pairs.{tally, Begins, Raises}
+use Rattle.pairs.specs.Pairs.{tally, Writes, Begins, Raises}
+
+module _ (l : List ℕ) (p h x : ℕ) where
+  pub writes-out : length l / 2 ≤ p → Writes l p h x l
+  unfolding pairsOf
+  writes-out o = record { inside = λ i. absurd (omega (arith, o, i)); outside = λ _. refl }
+
+  pub writes-in : p < length l / 2 → Writes l p h x (set l (p * 2 + h) x)
+  unfolding pairsOf
+  writes-in i = record { inside = λ _. refl; outside = λ o. absurd (omega (arith, o, i)) }
 
 pub begins-stopped : (p : Bool) (l : List ℕ) (u s a : ℕ) → (s ≡ 0 → ⊥) → Begins p l u s a l u s 0
 unfolding begin beginFrom waiting waitingFrom
@@ -33,12 +42,13 @@ begins-full p l u s a e f h =
       waits = λ k. ap (λ (x : Bool). waitingIfRoom x u) b;
     })
 
-pub begins-room : (p : Bool) (l : List ℕ) (u s a : ℕ) {l′ : List ℕ} → s ≡ 0 → p ≡ true → u < length l / 2 → l′ ≡ set l (u * 2) a
+pub begins-room : (p : Bool) (l : List ℕ) (u s a : ℕ) {l′ : List ℕ} → s ≡ 0 → p ≡ true → u < length l / 2 → Writes l u 0 a l′
     → Begins p l u s a l′ (u + 1) s (u + 1)
 unfolding begin beginFrom beginIfPicked beginIfRoom waiting waitingFrom waitingIfPicked waitingIfRoom pairsOf
 begins-room p l u s a e f h w =
     let b : ltb u (length l / 2) ≡ true = lt-ltb u (length l / 2) h in
-    rw (e, f, w)
+    let z : u * 2 + 0 ≡ u * 2 = omega arith in
+    rw (e, f, w .inside h, z)
     (record {
       begun = λ k. ap (λ (x : Bool). beginIfRoom x (tally l u k 0) a) b;
       waits = λ k. ap (λ (x : Bool). waitingIfRoom x u) b ∙ sym (add-one u);
@@ -48,15 +58,19 @@ pub ends-none : (w e : ℕ) (l : List ℕ) → w ≡ 0 → l ≡ endPair w e l
 unfolding endPair
 ends-none w e l h = rw h
 
-pub ends-out : (w e : ℕ) (l : List ℕ) → (w ≡ 0 → ⊥) → length l / 2 ≤ w - 1 → l ≡ endPair w e l
-unfolding endPair
-ends-out zero e l h b = absurd (h refl)
-ends-out (suc w) e l h b = sym (set-out l (w * 2 + 1) e (omega arith))
-
-pub ends-in : (w e : ℕ) (l : List ℕ) {l′ : List ℕ} → (w ≡ 0 → ⊥) → l′ ≡ set l ((w - 1) * 2 + 1) e → l′ ≡ endPair w e l
-unfolding endPair
-ends-in zero e l h y = absurd (h refl)
-ends-in (suc w) e l h y = let z : suc w - 1 ≡ w = omega arith in rw (y, z)
+-- the second number of a pair that the list does not have is none of the list
+pub ends-pair : (w e : ℕ) (l : List ℕ) {l′ : List ℕ} → (w ≡ 0 → ⊥) → Writes l (w - 1) 1 e l′ → l′ ≡ endPair w e l
+unfolding endPair pairsOf
+ends-pair zero e l h y = absurd (h refl)
+ends-pair (suc w) e l {l′} h y =
+    let z : suc w - 1 ≡ w = omega arith in
+    by (ltb w (length l / 2)) refl (rw z at y)
+  where
+    by : (b : Bool) → ltb w (length l / 2) ≡ b → Writes l w 1 e l′ → l′ ≡ endPair (suc w) e l
+    by true q y = y .inside (ltb-true w (length l / 2) q)
+    by false q y =
+        let o = ltb-false w (length l / 2) q in
+        y .outside o ∙ sym (set-out l (w * 2 + 1) e (omega (arith, o)))
 
 pub raises-stopped : (p k s : ℕ) → (s ≡ 0 → ⊥) → Raises p k s p
 unfolding raised raiseFrom

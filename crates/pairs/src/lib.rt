@@ -1,10 +1,9 @@
 // Pairs of the lent list, and the peak: what a walk writes and counts at a node.
 ghost use mathlib.Core.Path.{_≡_};
 ghost use Prim.Native.Nat.{_≤_};
-ghost use lib.ListN.{set};
 ghost use Rattle.automaton.specs.Halves.{endPair};
 ghost use Rattle.json.specs.Verdict.{maxBytes};
-ghost use Rattle.pairs.specs.Pairs.{Begins, Raises};
+ghost use Rattle.pairs.specs.Pairs.{Writes, Begins, Raises};
 
 // What a walk counts: the pairs used, the most frames at once, and one more than the first byte of the first node left over, or 0.
 pub struct Counts {
@@ -20,15 +19,17 @@ pub struct Begun {
     pub wait: usize,
 }
 
-// Writes a place of the record into slot `i` of the list, if the list has one.
-fn write(list: &mut [u32], i: usize, place: usize)
-    requires { ⌜ place ≤ maxBytes ⌝ }
-    ensures { λ _. ⌜ now (list .exit) ≡ set (now (list .entry)) i place ⌝ }
+// Writes a place of the record into a pair of the list, as its first number where `half` is 0 and as its second where it is 1. Nothing
+// is written where the list has no such pair.
+fn write(list: &mut [u32], pair: usize, half: usize, place: usize)
+    requires { ⌜ (half ≤ 1) × (place ≤ maxBytes) ⌝ }
+    ensures { λ _. ⌜ Writes (now (list .entry)) pair half place (now (list .exit)) ⌝ }
 {
-    if i >= list.len() {
+    if pair >= list.len() / 2 {
         return;
     }
-    list[i] = place as u32;
+    let slot = pair * 2 + half;
+    list[slot] = place as u32;
 }
 
 // Takes the next pair for a node that is picked out and writes its first byte there. Where no pair is left the walk stops at this
@@ -58,7 +59,7 @@ pub fn begin(list: &mut [u32], picked: bool, used: usize, stop: usize, at: usize
             wait: 0,
         };
     }
-    write(list, used * 2, at);
+    write(list, used, 0, at);
     Begun {
         used: used + 1,
         stop,
@@ -74,11 +75,7 @@ pub fn finish(list: &mut [u32], wait: usize, end: usize)
     if wait == 0 {
         return;
     }
-    let pair = wait - 1;
-    if pair >= list.len() / 2 {
-        return;
-    }
-    write(list, pair * 2 + 1, end);
+    write(list, wait - 1, 1, end);
 }
 
 // The most frames so far, where a container with these frames is met. Nothing changes after a stop.

@@ -17,17 +17,14 @@ add-t9 c = search needs
 returns-3 : tie.Need-returns-3
 returns-3 c = begins-full _ _ _ _ _ (c .before .before .if1 .left) (not-false _ (c .before .if2 .left)) (c .if3 .taken)
 
-mul-write : tie.Need-mul-write
-mul-write c = search needs
-
 write-requires : tie.Need-write-requires
 write-requires c κs = search needs
 
-add-t8 : tie.Need-add-t8
-add-t8 c = search needs
-
 add-t7 : tie.Need-add-t7
 add-t7 c = search needs
+
+add-t8 : tie.Need-add-t8
+add-t8 c = search needs
 
 same-length : tie.Need-same-length
 same-length c = search needs
@@ -39,4 +36,4 @@ returns-4 c =
     begins-room _ _ _ _ _ (at-if3 .before .before .if1 .left) (not-false _ (at-if3 .before .if2 .left)) (at-if3 .if3 .left) (at-write .write .ensures)
 
 pub begin-spec : {M : Type 1} → statement M
-begin-spec = tie.close (tie.spec returns returns-2 add-t9 returns-3 mul-write write-requires add-t8 add-t7 same-length returns-4)
+begin-spec = tie.close (tie.spec returns returns-2 add-t9 returns-3 write-requires add-t7 add-t8 same-length returns-4)

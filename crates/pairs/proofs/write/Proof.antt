@@ -1,12 +1,17 @@
--- A slot that is not there is not written, and setting it changes nothing. Assumes nothing.
-use mathlib.Core.Path.{sym}
-use lib.Seq.{set-out}
+-- A pair that the list has is written, and where it has none nothing is. Assumes nothing.
+use Rattle.pairs.proofs.Laws.{writes-out, writes-in}
 use borrow.Author.Needs.{needs}
 use Rattle.pairs.proofs.write.Statement.{statement}
 use Rattle.pairs.proofs.write.Tie as tie
 
 returns : tie.Need-returns
-returns c = sym (set-out _ _ _ (c .if1 .taken))
+returns c = writes-out _ _ _ _ (c .if1 .taken)
+
+mul-slot : tie.Need-mul-slot
+mul-slot c = search needs
+
+add-slot : tie.Need-add-slot
+add-slot c = search needs
 
 cast-list : tie.Need-cast-list
 cast-list c = search needs
@@ -21,7 +26,7 @@ same-length : tie.Need-same-length
 same-length c = search needs
 
 returns-2 : tie.Need-returns-2
-returns-2 c = search needs
+returns-2 c = writes-in _ _ _ _ (c .if1 .left)
 
 pub write-spec : {M : Type 1} → statement M
-write-spec = tie.close (tie.spec returns cast-list mul-list slice-write-list same-length returns-2)
+write-spec = tie.close (tie.spec returns mul-slot add-slot cast-list mul-list slice-write-list same-length returns-2)
