@@ -1,4 +1,4 @@
--- What a lister answers, and how its answer comes about: what is refused before the walk, and document 01's numbers for what a walk has counted.
+-- How a lister's answer comes about: what is refused before the walk, and document 01's numbers for what a walk has counted.
 use mathlib.Core.Path.{_≡_}
 use mathlib.Core.List.{List}
 use Prim.Native.Nat.{ℕ, zero, suc, _≤_}
@@ -9,10 +9,6 @@ use Rattle.answers.specs.Lister.{Lists}
 use Rattle.pairs.specs.declared.Counts.{Counts}
 use Rattle.lister.specs.declared.Answer.{Answer}
 use Rattle.lister.specs.declared.Input.{Input}
-
--- a lister's promise, of its answer
-abbrev pub Listed : (query «record» list after : List ℕ) → Answer → Type 0
-Listed q r l a x = Lists q r l a (x .ground) (x .place) (x .pairs) (x .peak)
 
 -- a ground and its place are a lister's answer, which leaves any list as it was; without a ground query and record are taken
 pub record Admits (q r : List ℕ) (x : Input) : Type 0 where

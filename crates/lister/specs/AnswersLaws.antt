@@ -18,7 +18,8 @@ use Rattle.marks.specs.Advances.{Fits}
 use Rattle.pairs.specs.Pairs.{tally}
 use Rattle.pairs.specs.declared.Counts.{Counts}
 use Rattle.walk.specs.Walks.{Walks}
-use Rattle.lister.specs.Answers.{Listed, Admits, refusal, Countable, concluded}
+use Rattle.lister.specs.Answers.{Admits, refusal, Countable, concluded}
+use Rattle.lister.specs.Listed.{Listed}
 use Rattle.lister.specs.declared.Answer.{Answer}
 use Rattle.lister.specs.declared.Input.{Input}
 

@@ -4,7 +4,7 @@ use lister::Answer;
 use lister::admit;
 use lister::conclude;
 use lister::refuse;
-ghost use Rattle.lister.specs.Answers.{Listed};
+ghost use Rattle.lister.specs.Listed.{Listed};
 
 // The same answers and the same list by the jumping walk, which goes straight past what the query cannot need.
 pub fn list_jumping(query: &[u8], record: &[u8], list: &mut [u32]) -> Answer

@@ -4,7 +4,7 @@ use lister::admit;
 use lister::conclude;
 use lister::refuse;
 use plain::walk_plain;
-ghost use Rattle.lister.specs.Answers.{Listed};
+ghost use Rattle.lister.specs.Listed.{Listed};
 
 // Lists the nodes of the record that the query picks out, in the order of their first bytes, by the plain walk: pairs of the offset of
 // a node's first byte and the offset after its last, as many as the list has room for.

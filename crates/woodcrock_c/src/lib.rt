@@ -4,7 +4,7 @@ use woodcrock::Found;
 use woodcrock::Words;
 ghost use Rattle.answers.specs.Finder.{Finds};
 ghost use Rattle.blocks.specs.Sorted.{Sorted};
-ghost use Rattle.lister.specs.Answers.{Listed};
+ghost use Rattle.lister.specs.Listed.{Listed};
 
 // Lists the nodes of the record that the query picks out, by the plain walk.
 #[no_mangle]
