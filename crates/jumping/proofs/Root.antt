@@ -7,6 +7,7 @@ use native.Mathlib.Omega.{arith}
 use lib.Dec.{eqb}
 use lib.ListN.{length, drop}
 use borrow.Author.Tests.{eq-eqb}
+use Rattle.bits.specs.Truth.{refuted}
 use Rattle.encoding.specs.Bytes.{putBlanks}
 use Rattle.json.specs.Grammar.{Tree, text, nesting, putValue}
 use Rattle.json.specs.Verdict.{maxDepth}
@@ -139,10 +140,6 @@ passed-whole : {x : List Step} {s : List ℕ} {whole : Tally} {z : Pile} {i : �
 passed-whole e (root h e1 e2 e3) = e3
 passed-whole e (item o l a p) = absurd (omega (arith, l .depth))
 
-no-item : (b : Bool) → (b ≡ true → ⊥) → b ≡ false
-no-item true h = absurd (h refl)
-no-item false h = refl
-
 pub running-starts : {q : List ℕ} {c : Compiled} {s list : List ℕ} {z : Pile} {n : ℕ} {a : Standing} → BeforeRoot s n a → Running q c s z list a z list a
 running-starts y =
     record {
@@ -174,5 +171,5 @@ module _ {q : List ℕ} {c : Compiled} {s : List ℕ} {z₀ z z′ : Pile} {list
         counts = λ x k t f n.
             let whole = tallied (fresh list₀) (nodeVisits (next x) (N.root t) (start x)) in
             let d = turn .keeps x k whole (before .keeps x k whole (y .due x (k .count) t f n z₀ h list₀)) in
-            sym (passed-whole e (d .passed (no-item (r .item) (λ g. turn .in-container g e))));
+            sym (passed-whole e (d .passed (refuted (r .item) (λ g. turn .in-container g e))));
       }

@@ -1,5 +1,5 @@
 -- Two names compared byte by byte: what is left to compare at each place decides. Assumes nothing.
-use mathlib.Core.Path.{_≡_, refl, sym, ap, ap₂, _∙_}
+use mathlib.Core.Path.{_≡_, sym, ap, ap₂, _∙_}
 use mathlib.Core.Bool.{Bool, true, false, _&&_}
 use mathlib.Core.List.{List, _∷_}
 use Prim.Native.Nat.{ℕ, _+_, _-_, _<_, _≤_}
@@ -9,19 +9,16 @@ use borrow.Author.Tests.{eq-eqb, ne-eqb}
 use lib.Dec.{eqb}
 use lib.ListN.{length, getD}
 use lib.Seq.{slice, slice-cons, slice-empty, length-slice}
+use Rattle.bits.specs.Truth.{refuted}
 use Rattle.select.specs.HitsAre.{sameName-is}
 use Rattle.select.specs.Ways.{sameName}
-
-is-not : (b : Bool) → (b ≡ true → ⊥) → false ≡ b
-is-not true f = absurd (f refl)
-is-not false f = refl
 
 -- names of different lengths differ
 pub differs : (q : List ℕ) (from to : ℕ) (s : List ℕ) (x y : ℕ) → to ≤ length q → y ≤ length s → (to - from ≡ y - x → ⊥)
     → false ≡ sameName (slice from to q) (slice x y s)
 differs q from to s x y h k f =
-    is-not (sameName (slice from to q) (slice x y s))
-    (λ e. f (sym (length-slice from to q h) ∙ ap length (sameName-is (slice from to q) (slice x y s) .0 e) ∙ length-slice x y s k))
+    sym (refuted (sameName (slice from to q) (slice x y s))
+    (λ e. f (sym (length-slice from to q h) ∙ ap length (sameName-is (slice from to q) (slice x y s) .0 e) ∙ length-slice x y s k)))
 
 step : (q : List ℕ) (i to : ℕ) (s : List ℕ) (j y : ℕ) → i < to → to ≤ length q → j < y → y ≤ length s
     → sameName (slice i to q) (slice j y s) ≡ (eqb (getD q i 0) (getD s j 0) && sameName (slice (i + 1) to q) (slice (j + 1) y s))

@@ -3,7 +3,7 @@
 -- Assumes nothing.
 use mathlib.Core.Path.{_≡_, refl, ap, sym, subst, _∙_}
 use mathlib.Core.List.{List, [], _∷_, _++_}
-use mathlib.Core.Bool.{Bool, true, false}
+use mathlib.Core.Bool.{Bool, true, false, false≢true, true≢false}
 use Prim.Native.Nat.{ℕ, _+_, _≤_, _<_}
 use native.Mathlib.Omega.{arith}
 use lib.Dec.{T, leb}
@@ -89,7 +89,7 @@ module _ (q : List ℕ) (i : ℕ) (h : i < length q) where
   went-on = record { within = omega arith; on = λ e. omega arith }
 
   stayed : Moved q i false i
-  stayed = record { within = omega arith; on = λ e. let z : _≡_ {A = ℕ} 0 1 = cc in absurd (omega arith) }
+  stayed = record { within = omega arith; on = λ e. absurd (false≢true e) }
 
   scanned-moves : {ok : Bool} {r : ℕ} → Scanned C.decoding q i ok r → Moved q i ok r
   scanned-moves s = record { within = scanned-within s (omega arith); on = λ e. scanned-moved (reads-at s) e }
@@ -111,9 +111,9 @@ module _ (q : List ℕ) (i : ℕ) (h : i < length q) where
       record {
         moved = went-on;
         stands = λ z. (c, t ∙ sym (byte-at q i h));
-        no-first = λ z. let w : _≡_ {A = ℕ} 0 1 = cc in absurd (omega arith);
-        dead = λ z. let w : _≡_ {A = ℕ} 0 1 = cc in absurd (omega arith);
-        over = λ z. let w : _≡_ {A = ℕ} 0 1 = cc in absurd (omega arith);
+        no-first = λ z. absurd (true≢false z);
+        dead = λ z. absurd (true≢false z);
+        over = λ z. absurd (true≢false z);
       }
 
   pub name-off : {x : Bool} → NameByteIs (getD q i 0) x → x ≡ false → getD q i 0 < 0x80 → NameChar q i false i
@@ -121,7 +121,7 @@ module _ (q : List ℕ) (i : ℕ) (h : i < length q) where
       let y = subst (NameByteIs (getD q i 0)) e x in
       record {
         moved = stayed;
-        stands = λ z. let w : _≡_ {A = ℕ} 0 1 = cc in absurd (omega arith);
+        stands = λ z. absurd (false≢true z);
         no-first = λ z d n f. stop-at (M.dotted d) q i h (no-name d y w n);
         dead = λ z g. absurd (omega arith);
         over = λ z g. same-done (name-over y w);
@@ -137,7 +137,7 @@ module _ (q : List ℕ) (i : ℕ) (h : i < length q) where
   pub no-first-digit : 0x30 ≤ getD q i 0 → getD q i 0 ≤ 0x39 → FirstChar q i false i
   no-first-digit l u = record {
     moved = stayed;
-    stands = λ z. let w : _≡_ {A = ℕ} 0 1 = cc in absurd (omega arith);
+    stands = λ z. absurd (false≢true z);
     dead = λ z d n. stop-at (M.dotted d) q i h (digit-dies d l u);
   }
 
