@@ -33,7 +33,7 @@ takes-between r b e =
 between-takes : (r : Rule) (b : ℕ) → lowest r ≤ b → b ≤ highest r → takes r b ≡ true
 between-takes r b p q = rw (le-leb (lowest r) b p, le-leb b (highest r) q)
 
-apart-takes : (r : Rule) (b : ℕ) → (lowest r ≤ b → b ≤ highest r → ⊥) → takes r b ≡ false
+pub apart-takes : (r : Rule) (b : ℕ) → (lowest r ≤ b → b ≤ highest r → ⊥) → takes r b ≡ false
 apart-takes r b f = refuted (takes r b) (λ e. f (takes-between r b e .0) (takes-between r b e .1))
 
 -- where the rules take all of a range alike: what they make of it

@@ -5,7 +5,7 @@ use mathlib.Core.Bool.{Bool}
 use Prim.Native.Nat.{ℕ, _+_, _-_, _<_}
 use native.Mathlib.Omega.{arith}
 use lib.Dec.{eqb}
-use lib.ListN.{length, getD, drop, length-drop}
+use lib.ListN.{length, getD, drop}
 use lib.Seq.{slice}
 use Rattle.json.specs.Grammar.{putKey, putValue, putMore}
 use Rattle.query_parser.specs.Holds.{Holds}
@@ -14,7 +14,7 @@ use Rattle.query_parser.specs.declared.compiled.Compiled.{Compiled}
 use Rattle.select.specs.Nodes.{size, labelOf}
 use Rattle.select.specs.Visits.{visits}
 use Rattle.select.specs.Ways.{frameIf}
-use Rattle.scan.specs.Places.{past-blanks, past-key}
+use Rattle.scan.specs.Places.{same-place, past-blanks, past-key}
 use Rattle.scan.specs.Scans.{EndsBlanks, EntersItem}
 use Rattle.marks.specs.Advances.{Advances}
 use Rattle.automaton.specs.State.{nextMarks, nextPicked, next}
@@ -26,10 +26,6 @@ use Rattle.walk.specs.Labels.{label-is}
 use Rattle.pile.specs.Pile.{Pile, kindAt, ValuePassed, root, item, ItemDue, ValueDue}
 use Rattle.pile.specs.PileLaws.{popped}
 use Rattle.pile.specs.Moves.{Pops}
-
--- a text that is not empty ends the record from one place only
-same-place : (s : List ℕ) (a b : ℕ) → a < length s → drop a s ≡ drop b s → b ≡ a
-same-place s a b h e = omega (arith, length-drop a s, length-drop b s, ap length e)
 
 -- an item is ahead; its value stands at v, its name from a to e
 module _ {q : List ℕ} {c : Compiled} {x : List Step} (holds : Holds q x c) {s : List ℕ} {whole : Tally} {z : Pile} {i : ℕ} {t : Tally} {d f m : ℕ}

@@ -19,9 +19,10 @@ use Rattle.encoding.specs.Bytes.{sameBytes}
 use Rattle.query_parser.specs.Holds.{Holds, everyAt, namedAt, nameAt}
 use Rattle.query.specs.Steps as S
 use Rattle.query.specs.Steps.{Step, Selector, isDeep}
+use Rattle.query.specs.StepsLaws.{no-step}
 use Rattle.query_parser.specs.declared.compiled.Compiled.{Compiled}
 use Rattle.select.specs.Nodes.{Label, member, element}
-use Rattle.select.specs.MarksStep.{stepHits, step-some}
+use Rattle.select.specs.MarksStep.{stepHits}
 use Rattle.select.specs.Ways.{hits}
 use Rattle.automaton.specs.State.{nextMark, nextMarks, pickAt, nextPicked}
 use Rattle.marks.specs.Advances.{namedHit, LabelIs, by-name, by-position, Taken, Advances}
@@ -47,13 +48,6 @@ hits-member (some s) w = go (s .selector)
     go : (sel : Selector) → (everyAt (by sel) || (namedAt (by sel) && sameBytes (nameAt (by sel)) w)) ≡ hits sel (member w)
     go (S.name v) = refl
     go S.every = refl
-
-no-step : (x : List Step) (i : ℕ) → length x ≤ i → getElem? x i ≡ none
-no-step x i l = go (getElem? x i) refl
-  where
-    go : (o : Option Step) → getElem? x i ≡ o → getElem? x i ≡ none
-    go none e = e
-    go (some s) e = absurd (omega (arith, step-some x i e))
 
 module _ (q : List ℕ) (c : Compiled) (m : ℕ) (name : List ℕ) where
   pub taken-element : (o : Bool) → o ≡ false → Taken q c m name o (bitAnd m (c .every))

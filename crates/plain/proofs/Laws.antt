@@ -18,7 +18,7 @@ use Rattle.query_parser.specs.declared.compiled.Compiled.{Compiled}
 use Rattle.select.specs.Nodes.{Label, size, root, labelOf}
 use Rattle.select.specs.Visits.{visits, nodeVisits}
 use Rattle.select.specs.Ways.{frameIf}
-use Rattle.scan.specs.Places.{past-blanks, past-key}
+use Rattle.scan.specs.Places.{same-place, past-blanks, past-key}
 use Rattle.scan.specs.Scans.{EndsBlanks, EndsScalar, EntersItem, kindIf}
 use Rattle.scan.specs.Shape.{starts}
 use Rattle.scan.specs.ShapeLaws.{solid-value, starts-value, stopped-end}
@@ -79,10 +79,6 @@ value-inside {s = s} {rest = rest} {a = a} v l = go (drop a s) refl
     go : (u : List ℕ) → drop a s ≡ u → ⊥
     go [] e = false≢true (ap starts (sym e ∙ v .here) ∙ starts-value (v .v) rest)
     go (b ∷ u) e = omega (arith, length-drop a s, ap length e)
-
--- a text that is not empty ends the record from one place only
-same-place : (s : List ℕ) (a b : ℕ) → a < length s → drop a s ≡ drop b s → b ≡ a
-same-place s a b h e = omega (arith, length-drop a s, length-drop b s, ap length e)
 
 -- the place of an item's value, after blanks and its key
 item-value-is : (next′ : State → Label → State) (s rest : List ℕ) (k : Kind) (st : State) (n : ℕ) (goal : Tally) (end i : ℕ) (t : Tally)

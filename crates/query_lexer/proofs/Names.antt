@@ -10,6 +10,7 @@ use lib.Dec.{T, leb}
 use borrow.Author.Tests.{leb-true, leb-false}
 use lib.ListN.{length, getD, drop, drop-of-length-le}
 use lib.Seq.{slice, getD-drop}
+use Rattle.encoding.specs.BytesLaws.{byte-at}
 use Rattle.encoding.specs.BytesLaws as L
 use Rattle.encoding.specs.CodePoint as C
 use Rattle.encoding.specs.CodePoint.{Scanned}
@@ -22,7 +23,7 @@ use Rattle.query.specs.Machine.{Control, done, inside, short, quoted, dead, Row
 use Rattle.query.specs.Read.{reading}
 use Rattle.query.specs.Spell.{spell, spells-chars, alike}
 use Rattle.query.specs.Text.{spells-shorthand}
-use Rattle.query.specs.At.{byte-at, end-at, stop-at}
+use Rattle.query.specs.At.{end-at, stop-at}
 use Rattle.query.specs.MachineLaws.{miss, miss-only, landing, leads, allParted, passes}
 use Rattle.query_lexer.specs.Scans.{NameByteIs, digit, upper, underscore, lower, below-digits, below-upper, between-cases, above-lower}
 use Rattle.query_lexer.specs.Scans.{spelt, NoName, Moved, NameChar, FirstChar, ShortName, QuotedChar, QuotedName}
