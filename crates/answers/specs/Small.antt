@@ -1,14 +1,14 @@
 -- The place of a refusal lies in the text or at its limit. Assumes nothing.
-use mathlib.Core.Path.{_≡_, refl, sym, ap, _∙_}
+use mathlib.Core.Path.{_≡_, refl, ap}
 use mathlib.Core.List.{List, [], _∷_, _++_}
-use Prim.Native.Nat.{ℕ, suc, _+_, _≤_}
+use Prim.Native.Nat.{ℕ, _+_, _≤_}
 use native.Mathlib.Omega.{arith}
-use lib.ListN.{length, take}
-use lib.Seq.{take-all}
+use lib.ListN.{length}
 use Rattle.encoding.specs.BytesLaws.{size, length-blanks}
 use Rattle.encoding.specs.Verdict.{Verdict}
+use Rattle.json.specs.Beyond.{opens-inside}
 use Rattle.json.specs.Verdict as J
-use Rattle.json.specs.Verdict.{maxDepth, maxBytes, recordVerdict, OpensBeyond, RecordSays}
+use Rattle.json.specs.Verdict.{maxBytes, recordVerdict, RecordSays}
 use Rattle.json.specs.Says.{recordSays}
 use Rattle.query.specs.Append.{append-query}
 use Rattle.query.specs.Grammar.{Query, Spaced, putQuery, putSpaced, putSegment, text}
@@ -41,11 +41,6 @@ query-place s = go (queryVerdict s) (querySays s)
     go v (Q.wrong l n p d) = omega (arith, d .within)
     go v (Q.many l t x u e f) = omega (arith, step-before-end t x u, ap length e)
 
-bracket-inside : (n : ℕ) (s : List ℕ) (p : ℕ) → OpensBeyond n s p → (length s ≤ p → ⊥)
-bracket-inside n s p h l =
-    let same : take p s ≡ take (suc p) s = take-all p s l ∙ sym (take-all (suc p) s (omega arith)) in
-    h .beyond (rw same at (h .before))
-
 pub record-place : (s : List ℕ) → recordVerdict s .place ≤ maxBytes
 record-place s = go (recordVerdict s) (recordSays s)
   where
@@ -53,4 +48,4 @@ record-place s = go (recordVerdict s) (recordSays s)
     go v (J.taken l x) = omega arith
     go v (J.long l) = omega arith
     go v (J.wrong p l n d h) = omega (arith, d .within)
-    go v (J.deep p l h) = omega (arith, bracket-inside maxDepth s p h)
+    go v (J.deep p l h) = omega (arith, opens-inside h)

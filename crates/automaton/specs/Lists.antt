@@ -8,9 +8,7 @@ use lib.ListN.{length, take, drop}
 use Rattle.encoding.specs.Verdict.{Verdict}
 use Rattle.encoding.specs.Verdict as verdict
 use Rattle.json.specs.Grammar.{Tree}
-use Rattle.json.specs.Verdict as J
-use Rattle.json.specs.Verdict.{recordVerdict, RecordSays}
-use Rattle.json.specs.Says.{recordSays}
+use Rattle.json.specs.Verdict.{recordVerdict}
 use Rattle.query.specs.Verdict.{queryVerdict, stepsIn}
 use Rattle.select.specs.Ways.{Span, spans, peak}
 use Rattle.answers.specs.Lister.{orElse, inputVerdict, spansOf, spansIn, peakOf, peakIn, pairsOf, leftOver, listVerdict}
@@ -20,16 +18,6 @@ use Rattle.answers.specs.Within.{RecordIs}
 use Rattle.answers.specs.WithinLaws.{record-tree}
 use Rattle.automaton.specs.Tally.{Tally}
 use Rattle.automaton.specs.TallyIs.{stopAt, Whole}
-
--- a record without a ground has a tree within the limits
-pub taken-record : (s : List ℕ) → recordVerdict s .ground ≡ 0 → (t : Tree) × RecordIs s t
-taken-record s e = go (recordVerdict s) (recordSays s) e
-  where
-    go : (v : Verdict) → RecordSays s v → v .ground ≡ 0 → (t : Tree) × RecordIs s t
-    go v (J.taken l x) z = (x .tree, record { written = x .written; bytes = l; levels = x .shallow })
-    go v (J.long l) z = absurd (omega arith)
-    go v (J.wrong l n p d h) z = absurd (omega arith)
-    go v (J.deep l p h) z = absurd (omega arith)
 
 -- a lister's numbers, by the verdict on query and record
 module _ (q r l : List ℕ) where

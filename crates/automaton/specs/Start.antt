@@ -1,5 +1,5 @@
 -- The state at the root: with no step there is no mark and the root is picked out; with one or more it has mark 0 alone. Assumes nothing.
-use mathlib.Core.Path.{_≡_, refl, ap}
+use mathlib.Core.Path.{_≡_, refl}
 use mathlib.Core.List.{List, [], _∷_}
 use mathlib.Core.Bool.{Bool, true, false}
 use Prim.Native.Nat.{ℕ, zero, suc}
@@ -8,7 +8,7 @@ use lib.Dec.{eqb, eqb·suc-zero}
 use lib.ListN.{length}
 use Rattle.bits.specs.Bits.{number, digit}
 use Rattle.query.specs.Steps.{Step}
-use Rattle.automaton.specs.State.{State, start}
+use Rattle.automaton.specs.State.{start}
 
 -- a number none of whose bits is on
 pub number-none : (n : ℕ) (f : ℕ → Bool) → ((i : ℕ) → f i ≡ false) → number n f ≡ 0

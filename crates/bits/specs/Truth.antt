@@ -19,6 +19,14 @@ pub of-T : (b : Bool) → T b → b ≡ true
 of-T true t = refl
 of-T false t = absurd t
 
+pub to-T : {b : Bool} → b ≡ true → T b
+to-T e = rw e tt
+
+-- what is not true is false
+pub refuted : (b : Bool) → (b ≡ true → ⊥) → b ≡ false
+refuted true f = absurd (f refl)
+refuted false f = refl
+
 pub beq→eq : (a b : Bool) → T (Bool·beq a b) → a ≡ b
 beq→eq true true t = refl
 beq→eq true false t = absurd t
@@ -79,6 +87,11 @@ xor-true = truth 1 (λ x. xor x true) not tt
 pub true-xor : (x : Bool) → xor true x ≡ not x
 unfolding xor
 true-xor = truth 1 (xor true) not tt
+
+-- what follows from either of two tests follows where one of them holds
+pub or-elim : {A : Type 0} (x y : Bool) → T (x || y) → (T x → A) → (T y → A) → A
+or-elim true y t f g = f t
+or-elim false y t f g = g t
 
 -- an alternative that holds has one that holds, and one that fails has none
 pub or-is : (x y : Bool) → ((x || y) ≡ true) ↔ ((x ≡ true) ⊎ (y ≡ true))

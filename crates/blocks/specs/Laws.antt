@@ -1,6 +1,6 @@
 -- Laws of the words for callers: the bits of each word; a predicate looks at no byte behind its place; block by block with the facts carried; byte by byte. Assumes nothing.
 use mathlib.Core.Path.{_≡_, refl, sym, ap, ap₂, _∙_}
-use mathlib.Core.Bool.{Bool, true, false, not, xor, _&&_, _||_, and-false}
+use mathlib.Core.Bool.{Bool, true, false, not, xor, _&&_, _||_, and-false, true≢false}
 use mathlib.Core.List.{List}
 use mathlib.Core.Logic.{⊎-elim}
 use Prim.Native.Nat.{ℕ, zero, suc, _+_, _<_, _≤_}
@@ -95,8 +95,7 @@ module _ (s : List ℕ) (inside odd : Bool) (i : ℕ) (low : Lowest 64 (bitOr (o
       let none : bit i (bitOr (openingWord inside odd s) (closingWord inside odd s)) ≡ false =
       bit-or i (openingWord inside odd s) (closingWord inside odd s)
       ∙ ap₂ (λ (x y : Bool). x || y) (opening-past s inside odd i l) (closing-past s inside odd i l) in
-      let clash : true ≡ false = sym (low .is-on h) ∙ none in
-      let z : _≡_ {A = ℕ} 0 1 = cc in absurd (omega arith))
+      absurd (true≢false (sym (low .is-on h) ∙ none)))
       (lt-or-ge i (blockSize s))
 
   pub next-bracket : i < 64 → (opensAt inside odd s i || closesAt inside odd s i) ≡ true

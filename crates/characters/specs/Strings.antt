@@ -1,7 +1,7 @@
 -- Strings (RFC 8259 §7) as the record grammar's machine takes them.
 use mathlib.Core.Path.{_≡_, refl}
 use mathlib.Core.List.{List, [], _∷_}
-use mathlib.Core.Bool.{Bool, true, false}
+use mathlib.Core.Bool.{Bool, true, false, false≢true}
 use mathlib.Core.Option.{some, none}
 use Prim.Native.Nat.{ℕ, zero, suc, _+_, _-_, _≤_, _<_}
 use native.Mathlib.Omega.{arith}
@@ -17,11 +17,10 @@ use Rattle.encoding.specs.Utf8At.{RestAt, ReadsAt, reads-at, scanned-within}
 use Rattle.encoding.specs.WideRun as W
 use Rattle.encoding.specs.WideRun.{WideAt, WideRun, run-moved}
 use Rattle.json.specs.Room.{Room, endless}
-use Rattle.json.specs.Machine.{Ctl, inString, escaping, hexDue, tailDue, closed, Stack, State, at, dead, one, span, hexRules, rules, step, final}
-use Rattle.encoding.specs.Utf8.{anyTail, afterE0, afterED, afterF0, afterF4}
+use Rattle.json.specs.Machine.{Ctl, inString, escaping, hexDue, closed, Stack, State, at, dead, one, span, hexRules, rules, step, final}
 use Rattle.json.specs.MachineLaws.{inside, past, nowhere, landing, step-range, step-by}
 use Rattle.json.specs.Led.{Led, led-here, led-go, led-die, led-end, led-skip, led-on, led-dead}
-use Rattle.scalars.specs.Among.{never, Among, among-step, among-past, topped, over-all}
+use Rattle.scalars.specs.Among.{Among, among-step, among-past, topped, over-all}
 use Rattle.moves.specs.Moves.{tails}
 
 -- the letters that stand for one character after a backslash
@@ -228,7 +227,7 @@ module _ {s : List ℕ} {i : ℕ} (h : i < length s) where
       NotPlain (getD s i 0) → (getD s i 0 ≡ 0x22 → ⊥) → getD s i 0 < 0x80 → (getD s i 0 ≡ 0x5C → ⊥) → Character s i false i
   wrong-character x q l n =
       record {
-        moved = never;
+        moved = λ e. absurd (false≢true e);
         led = λ f. led-die (led-here s i (inString f) (omega arith)) (inString f) h (λ k. control-dead f k endless (by x));
       }
     where

@@ -1,7 +1,6 @@
 // Strings of the check of a record (RFC 8259 section 7): runs of plain bytes, escapes, and code points by the rows of UTF-8 or by a table
 // of moves.
 ghost use mathlib.Core.Bool.{Bool};
-ghost use mathlib.Core.List.{[], _∷_};
 ghost use mathlib.Core.Path.{_≡_};
 ghost use Prim.Native.Nat.{_≤_, _<_};
 ghost use lib.ListN.{length, getD};

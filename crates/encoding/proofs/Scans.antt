@@ -4,16 +4,12 @@ use mathlib.Core.Path.{_≡_, refl, ap, sym, _∙_}
 use mathlib.Core.List.{List, [], _∷_}
 use mathlib.Core.Bool.{Bool, true, false}
 use Prim.Native.Nat.{ℕ, suc, _+_, _-_, _≤_, _<_}
-use native.Mathlib.Numerals.{add-one}
 use native.Mathlib.Omega.{arith}
 use lib.ListN.{length, getD, drop, drop-of-length-le}
-use lib.Seq.{drop-cons}
+use Rattle.encoding.specs.BytesLaws.{byte-at}
 use Rattle.encoding.specs.CodePoint.{Decoding, whole, wrong, short, later, due, isWhole, Scanned}
 use Rattle.encoding.specs.CodePointLaws.{is-whole-later, extent-later}
 use Rattle.encoding.specs.Utf8Steps.{due-on, due-under, due-over}
-
-here : (s : List ℕ) (i : ℕ) → i < length s → drop i s ≡ getD s i 0 ∷ drop (i + 1) s
-here s i h = drop-cons s i 0 h ∙ ap (λ (n : ℕ). getD s i 0 ∷ drop n s) (sym (add-one i))
 
 module _ {s : List ℕ} {i : ℕ} {read : List ℕ → Decoding} where
   -- nothing is due
@@ -33,7 +29,7 @@ module _ {s : List ℕ} {i : ℕ} {read : List ℕ → Decoding} where
   module _ (h : i < length s) where
     pub at-wrong : ((t : List ℕ) → read (getD s i 0 ∷ t) ≡ wrong 0) → Scanned read s i false i
     at-wrong e =
-        let same : read (drop i s) ≡ wrong 0 = ap read (here s i h) ∙ e (drop (i + 1) s) in
+        let same : read (drop i s) ≡ wrong 0 = ap read (byte-at s i h) ∙ e (drop (i + 1) s) in
         record { ok-whole = ap isWhole (sym same); at-extent = rw same (omega arith) }
 
     pub one-on :
@@ -41,10 +37,10 @@ module _ {s : List ℕ} {i : ℕ} {read : List ℕ → Decoding} where
         Scanned rest s (i + 1) ok at → Scanned read s i ok at
     one-on {rest} e a =
         let t = drop (i + 1) s in
-        let same : read (drop i s) ≡ later (rest t) = ap read (here s i h) ∙ e t in
+        let same : read (drop i s) ≡ later (rest t) = ap read (byte-at s i h) ∙ e t in
         record {
           ok-whole = a .ok-whole ∙ sym (is-whole-later (rest t)) ∙ ap isWhole (sym same);
-          at-extent = rw (same, here s i h) (omega (arith, a .at-extent, extent-later (getD s i 0) t (rest t)));
+          at-extent = rw (same, byte-at s i h) (omega (arith, a .at-extent, extent-later (getD s i 0) t (rest t)));
         }
 
 count : (n : ℕ) → 0 < n → n ≡ suc (n - 1)

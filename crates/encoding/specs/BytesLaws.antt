@@ -5,12 +5,18 @@ use mathlib.Core.List.{List, [], _∷_, _++_}
 use mathlib.Core.Bool.{true, false, _&&_, and-false, and-eq-true-iff, false≢true}
 use mathlib.Core.Logic.{_↔_}
 use Prim.Native.Nat.{ℕ, _+_, _≤_, _<_}
+use native.Mathlib.Numerals.{add-one}
 use native.Mathlib.Omega.{arith}
 use lib.Dec.{T, leb, leb→le, eqb}
-use lib.ListN.{length, length-append}
+use lib.ListN.{length, getD, drop, length-append}
+use lib.Seq.{drop-cons}
 use borrow.Author.Tests.{le-leb, lt-leb, eqb-true, eq-eqb}
 use Rattle.bits.specs.Truth.{and-left, and-right}
 use Rattle.encoding.specs.Bytes.{In, putIn, Blanks, blankByte, putBlanks, sameBytes}
+
+-- what stands at a place is the byte there and what follows it
+pub byte-at : (s : List ℕ) (i : ℕ) → i < length s → drop i s ≡ getD s i 0 ∷ drop (i + 1) s
+byte-at s i h = rw add-one (drop-cons s i 0 h)
 
 -- the test of a range, from what is known of the byte
 module _ (lo hi b : ℕ) where

@@ -1,7 +1,7 @@
 -- Which bytes have which class (document 01, "The class of every byte"), both ways.
 use mathlib.Core.Path.{_≡_, refl}
 use mathlib.Core.List.{List, [], _∷_}
-use mathlib.Core.Bool.{Bool, true, false}
+use mathlib.Core.Bool.{Bool, true, false, false≢true}
 use mathlib.Core.Logic.{_⊎_, inl, inr, ⊎-elim, _↔_}
 use Prim.Native.Nat.{ℕ, suc}
 use native.Mathlib.Omega.{arith}
@@ -21,7 +21,7 @@ OneOf (x ∷ xs) c b = OrElse (eqb (x .class) c) (b ≡ x .byte) (OneOf xs c b)
 
 this : (A B : Type 0) (k : Bool) → k ≡ true → A → OrElse k A B
 this A B true e a = inl a
-this A B false e a = let z : _≡_ {A = ℕ} 0 1 = cc in absurd (omega arith)
+this A B false e a = absurd (false≢true e)
 
 other : (A B : Type 0) (k : Bool) → B → OrElse k A B
 other A B true b = inr b
@@ -63,21 +63,9 @@ module _ (b : ℕ) where
   unfolding classOf
   closing-class = (λ e. ⊎-elim inl (λ r. inr (only r)) (has 1 b e), two refl refl)
 
-  pub colon-class : (classOf b ≡ 3) ↔ (b ≡ 0x3A)
-  unfolding classOf
-  colon-class = (λ e. only (has 2 b e), one refl)
-
   pub comma-class : (classOf b ≡ 4) ↔ (b ≡ 0x2C)
   unfolding classOf
   comma-class = (λ e. only (has 3 b e), one refl)
-
-  pub quote-class : (classOf b ≡ 5) ↔ (b ≡ 0x22)
-  unfolding classOf
-  quote-class = (λ e. only (has 4 b e), one refl)
-
-  pub backslash-class : (classOf b ≡ 6) ↔ (b ≡ 0x5C)
-  unfolding classOf
-  backslash-class = (λ e. only (has 5 b e), one refl)
 
   blank-of : OneOf entries 7 b → (w : Blank) × (b ≡ blankByte w)
   blank-of (inl e) = (space, e)

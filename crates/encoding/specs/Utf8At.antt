@@ -1,7 +1,7 @@
 -- How a code point is read at a place of a text: what a scan's answer says, byte by byte and against the grammar.
 use mathlib.Core.Path.{_≡_, refl, ap, sym, _∙_}
 use mathlib.Core.List.{List, [], _∷_}
-use mathlib.Core.Bool.{Bool, true, false}
+use mathlib.Core.Bool.{Bool, true, false, false≢true}
 use Prim.Native.Nat.{ℕ, _+_, _-_, _≤_, _<_}
 use native.Mathlib.Nat.{add-zero}
 use native.Mathlib.Omega.{arith}
@@ -91,8 +91,8 @@ module _ {s : List ℕ} {i : ℕ} {ok : Bool} {at : ℕ} (r : Scanned decoding s
       go (whole n) f w q =
           let p = whole-wide (drop i s) n f in
           (p .0, ap (λ (m : ℕ). putWide (p .0) (drop m s)) q ∙ ap (putWide (p .0)) (sym (drop-drop n i s)) ∙ p .1)
-      go (wrong k) f w q = let z : _≡_ {A = ℕ} 0 1 = cc in absurd (omega arith)
-      go short f w q = let z : _≡_ {A = ℕ} 0 1 = cc in absurd (omega arith)
+      go (wrong k) f w q = absurd (false≢true w)
+      go short f w q = absurd (false≢true w)
 
   -- not ok: the place is that of the dead byte
   pub scanned-dead : ok ≡ false → DeadPlace StartsWide (drop i s) (at - i)
@@ -110,7 +110,7 @@ rest-moved (next n h l u r) = omega (arith, rest-moved r)
 
 -- the scan goes forward
 pub scanned-moved : {s : List ℕ} {i : ℕ} {ok : Bool} {at : ℕ} → ReadsAt s i ok at → ok ≡ true → i < at
-scanned-moved (cut h) e = let z : _≡_ {A = ℕ} 0 1 = cc in absurd (omega arith)
-scanned-moved (too-low h l) e = let z : _≡_ {A = ℕ} 0 1 = cc in absurd (omega arith)
-scanned-moved (too-high h l) e = let z : _≡_ {A = ℕ} 0 1 = cc in absurd (omega arith)
+scanned-moved (cut h) e = absurd (false≢true e)
+scanned-moved (too-low h l) e = absurd (false≢true e)
+scanned-moved (too-high h l) e = absurd (false≢true e)
 scanned-moved (first h f r) e = omega (arith, rest-moved r)

@@ -1,7 +1,7 @@
 -- Code points from 80 (hexadecimal) on that stand one after another.
 use mathlib.Core.Path.{_≡_, refl}
 use mathlib.Core.List.{List}
-use mathlib.Core.Bool.{Bool, true, false}
+use mathlib.Core.Bool.{Bool, true, false, false≢true}
 use Prim.Native.Nat.{ℕ, _≤_, _<_}
 use native.Mathlib.Omega.{arith}
 use lib.ListN.{length, getD}
@@ -33,12 +33,12 @@ point-moved p = scanned-moved (reads-at p) refl
 run-forward : {s : List ℕ} {i : ℕ} {ok : Bool} {r : ℕ} → WideRun s i ok r → ok ≡ true → i ≤ r
 run-forward (over h) e = omega arith
 run-forward (narrow h) e = omega arith
-run-forward (broken w p) e = let z : _≡_ {A = ℕ} 0 1 = cc in absurd (omega arith)
+run-forward (broken w p) e = absurd (false≢true e)
 run-forward (more w p q) e = omega (arith, point-moved p, run-forward q e)
 
 -- it goes forward where a byte from 80 on stands
 pub run-moved : {s : List ℕ} {i : ℕ} {ok : Bool} {r : ℕ} → WideRun s i ok r → WideAt s i → ok ≡ true → i < r
 run-moved (over h) x e = absurd (omega (arith, x .inside))
 run-moved (narrow h) x e = absurd (omega (arith, x .from-80))
-run-moved (broken w p) x e = let z : _≡_ {A = ℕ} 0 1 = cc in absurd (omega arith)
+run-moved (broken w p) x e = absurd (false≢true e)
 run-moved (more w p q) x e = omega (arith, point-moved p, run-forward q e)

@@ -28,17 +28,17 @@ use Rattle.pairs.specs.Pairs.{tally, Begins, Raises}
 use Rattle.walk.specs.Ahead.{ItemsAhead}
 use Rattle.walk.specs.AheadLaws.{items-inside, no-items, first-item}
 use Rattle.walk.specs.ValueLaws.{scalar-passed, container-entered}
-use Rattle.pile.specs.Pile.{Pile, kept, Open, kindAt, Passed, ItemDue, ValueDue, ContainerDue}
+use Rattle.pile.specs.Pile.{Pile, kept, Open, kindAt, ValuePassed, ItemDue, ValueDue, ContainerDue}
 use Rattle.pile.specs.PileLaws.{passed-sized, passed-few, passed-kept, level-new}
 use Rattle.pile.specs.Moves.{Lost, Idle, Skipped}
-use Rattle.pile.specs.Due.{tallyOf}
+use Rattle.pile.specs.Due.{tallyAt}
 use Rattle.pile.specs.DueLaws.{onward-lost, lost-item}
 use Rattle.pile.specs.declared.Coming.{Coming}
 use Rattle.pile.specs.declared.Standing.{Standing}
 use Rattle.enter.specs.Passes.{PassesContainer}
 
 passed-as : {x : List Step} {s : List ℕ} {whole : Tally} {z : Pile} {i j : ℕ} {t u : Tally} {d f m : ℕ} → j ≡ i → u ≡ t
-    → Passed x s whole z i t d f m → Passed x s whole z j u d f m
+    → ValuePassed x s whole z i t d f m → ValuePassed x s whole z j u d f m
 passed-as e1 e2 p = rw (e1, e2) p
 
 -- a node that is begun after a stop changes nothing
@@ -70,7 +70,7 @@ module _ {x : List Step} {s : List ℕ} {whole : Tally} {z : Pile} {i : ℕ} {l 
   waits-is = ap (λ (b : Bool). waiting b (tally l u h k)) (v .picked-is) ∙ g .waits h
 
   -- a scalar
-  pub scalar-due : {e : ℕ} → (classOf (getD s i 0) ≡ 1 → ⊥) → EndsScalar s i e → Passed x s whole z e (finish w e (tally l′ u′ h k′)) d f m
+  pub scalar-due : {e : ℕ} → (classOf (getD s i 0) ≡ 1 → ⊥) → EndsScalar s i e → ValuePassed x s whole z e (finish w e (tally l′ u′ h k′)) d f m
   scalar-due {e} c q =
       let y = scalar-passed (next x) s (v .rest) (v .state) (v .room) (v .goal) (v .end) i (tally l u h k) (v .ahead) e c q in
       passed-as (y .1) (ap₂ (λ (n : ℕ) (t : Tally). finish n e t) (sym waits-is) (sym begun-is) ∙ y .0) (v .after)
@@ -123,7 +123,7 @@ has-frame v = omega (arith, v .fits, passed-few (v .after))
 -- bytes that no tree explains
 pub container-lost : {s : List ℕ} {z z′ : Pile} {l l′ : List ℕ} {v : Coming} {w : ℕ} {a r : Standing} → Lost (v .at) a r → v .at < length s
     → a .frames ≤ maxDepth
-    → ((x : List Step) (whole : Tally) → ContainerDue x s whole z (v .at) (tallyOf l a) w (v .marks) (a .depth) (a .frames) (a .marks) → ⊥)
+    → ((x : List Step) (whole : Tally) → ContainerDue x s whole z (v .at) (tallyAt l a) w (v .marks) (a .depth) (a .frames) (a .marks) → ⊥)
     → PassesContainer s z z′ l l′ v w a r
 container-lost y h g n =
     record { onward = onward-lost y (omega arith) (omega arith) g; passed = λ e. lost-item y; keeps = λ x whole d. absurd (n x whole d) }
@@ -156,7 +156,7 @@ module _ {x : List Step} {s : List ℕ} {whole : Tally} {z : Pile} {i : ℕ} {l 
       go (suc n) y = sym (inside .runs) ∙ tallied-stopped (tally l u h′ k) (itemsVisits (next x) (inside .is) (v .state) (i + 1)) n y
 
   -- it is passed without a look inside
-  pub skipped-due : {e : ℕ} {b : Bool} → Skipped m′ k b → b ≡ true → Leaves s (i + 1) e → Passed x s whole z e (finish w e (tally l u h′ k)) d f m
+  pub skipped-due : {e : ℕ} {b : Bool} → Skipped m′ k b → b ≡ true → Leaves s (i + 1) e → ValuePassed x s whole z e (finish w e (tally l u h′ k)) d f m
   skipped-due {e} y c q =
       let a : e ≡ v .end = q .exact _ (inside .is) (v .rest) (inside .here) ∙ sym (inside .ends) in
       passed-as a (ap₂ (λ (n : ℕ) (t : Tally). finish w n t) a (sym (unchanged (y .only c)))) (v .after)
@@ -169,7 +169,7 @@ module _ {x : List Step} {s : List ℕ} {whole : Tally} {z : Pile} {i : ℕ} {l 
         inside blanks
 
     -- it has no items
-    pub empty-due : classOf (getD s c 0) ≡ 2 → Passed x s whole z (c + 1) (finish w (c + 1) (tally l u h′ k)) d f m
+    pub empty-due : classOf (getD s c 0) ≡ 2 → ValuePassed x s whole z (c + 1) (finish w (c + 1) (tally l u h′ k)) d f m
     empty-due e =
         let y =
         no-items (next x) s (v .rest) (kindAt (getD s i 0)) (v .state) (v .room) (v .inner) (v .end) (i + 1) c (tally l u h′ k)

@@ -8,7 +8,7 @@ use Rattle.query.specs.Steps.{Step}
 use Rattle.automaton.specs.Tally.{Tally}
 use Rattle.pile.specs.Pile.{Pile, ValueDue, ContainerDue}
 use Rattle.pile.specs.Moves.{Idle}
-use Rattle.pile.specs.Due.{tallyOf, Due, Onward}
+use Rattle.pile.specs.Due.{tallyAt, Due, Onward}
 use Rattle.pile.specs.declared.Standing.{Standing}
 use Rattle.pile.specs.declared.Coming.{Coming}
 
@@ -16,12 +16,12 @@ use Rattle.pile.specs.declared.Coming.{Coming}
 pub record PassesValue (s : List ℕ) (z z′ : Pile) (list list′ : List ℕ) (v : Coming) (a r : Standing) : Type 0 where
   pub onward : Onward (length s) (v .at) r
   pub passed : Idle (v .marks) (a .stop) → r .item ≡ false
-  pub keeps : (x : List Step) (whole : Tally) → ValueDue x s whole z (v .at) (tallyOf list a) (v .marks) (v .picked) (a .depth) (a .frames) (a .marks)
+  pub keeps : (x : List Step) (whole : Tally) → ValueDue x s whole z (v .at) (tallyAt list a) (v .marks) (v .picked) (a .depth) (a .frames) (a .marks)
       → Due x s whole z′ list′ r
 
 -- the same of a container whose pair w is begun
 pub record PassesContainer (s : List ℕ) (z z′ : Pile) (list list′ : List ℕ) (v : Coming) (w : ℕ) (a r : Standing) : Type 0 where
   pub onward : Onward (length s) (v .at) r
   pub passed : Idle (v .marks) (a .stop) → r .item ≡ false
-  pub keeps : (x : List Step) (whole : Tally) → ContainerDue x s whole z (v .at) (tallyOf list a) w (v .marks) (a .depth) (a .frames) (a .marks)
+  pub keeps : (x : List Step) (whole : Tally) → ContainerDue x s whole z (v .at) (tallyAt list a) w (v .marks) (a .depth) (a .frames) (a .marks)
       → Due x s whole z′ list′ r

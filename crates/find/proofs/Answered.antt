@@ -9,9 +9,8 @@ use lib.ListN.{length, take, drop}
 use Rattle.encoding.specs.Verdict.{Verdict}
 use Rattle.json.specs.Append.{length-text}
 use Rattle.json.specs.Grammar.{Tree}
-use Rattle.json.specs.Verdict.{RecordSays, recordVerdict}
+use Rattle.json.specs.Verdict.{recordVerdict}
 use Rattle.json.specs.Says.{recordSays}
-use Rattle.json.specs.Verdict as J
 use Rattle.select.specs.Nodes.{IsNode, size, endOf, root}
 use Rattle.select.specs.Order.{first-before-end, below-within}
 use Rattle.select.specs.Visits.{nodes}
@@ -20,20 +19,14 @@ use Rattle.answers.specs.Finder.{endAmong, endAt, endIn, offsetVerdict, findVer
 use Rattle.answers.specs.FinderIs.{finder-says-only, finds-say, reader-part, reader-says-only}
 use Rattle.answers.specs.FinderSays.{FinderSays, recordRefused, noValue, found, nothing}
 use Rattle.answers.specs.Within.{RecordIs}
-use Rattle.answers.specs.WithinLaws.{record-is-taken, record-tree}
+use Rattle.answers.specs.WithinLaws.{record-is-taken, record-tree, taken-record}
 use Rattle.validate.specs.Checks.{Answers}
 use Rattle.seek.specs.Seeks.{FindsFrom}
 use Rattle.seek.specs.EndLaws.{none-found}
 
 -- the record is taken
-pub record-is : {s : List ℕ} {g p : ℕ} → Answers (recordVerdict s) g p → g ≡ 0 → (t : Tree) × RecordIs s t
-record-is {s} h z = go (recordSays s) (sym (h .ground-is) ∙ z)
-  where
-    go : {v : Verdict} → RecordSays s v → v .ground ≡ 0 → (t : Tree) × RecordIs s t
-    go (J.taken l j) z = (j .tree, record { written = j .written; bytes = l; levels = j .shallow })
-    go (J.long l) z = absurd (omega arith)
-    go (J.wrong p l f d a) z = absurd (omega arith)
-    go (J.deep p l q) z = absurd (omega arith)
+pub answered-record : {s : List ℕ} {g p : ℕ} → Answers (recordVerdict s) g p → g ≡ 0 → (t : Tree) × RecordIs s t
+answered-record {s} h z = taken-record s (sym (h .ground-is) ∙ z)
 
 module _ (s : List ℕ) (o : ℕ) where
   -- the record is refused

@@ -5,8 +5,9 @@ use mathlib.Core.Bool.{Bool, true, false, _&&_, _||_, and-eq-true-iff}
 use mathlib.Core.Option.{Option, some, none}
 use Prim.Native.Nat.{ℕ, zero, suc, _≤_}
 use native.Mathlib.Omega.{arith}
-use lib.Dec.{leb, ltb}
-use borrow.Author.Tests.{le-leb, leb-true, ltb-true}
+use lib.Dec.{leb, ltb, ltb→lt}
+use borrow.Author.Tests.{le-leb, leb-true}
+use Rattle.bits.specs.Truth.{to-T, refuted, or-elim}
 use Rattle.encoding.specs.Bytes as B
 use Rattle.encoding.specs.Bytes.{In, Blank, blankByte}
 use Rattle.encoding.specs.BytesLaws.{from-low, to-high}
@@ -14,15 +15,6 @@ use Rattle.json.specs.Grammar.{Kind, array, object, opening, closing}
 use Rattle.json.specs.Room.{Room, left, endless, wider}
 use Rattle.json.specs.Machine.{Ctl, item, colon, after, Stack, top, pop, State, dead, at, entered, Rule, one, span}
 use Rattle.json.specs.Machine.{opens, closes, lowest, highest, takes, apply, afterRules, rules, pick, step}
-
--- tests
-or-true : {A : Type 0} (x y : Bool) → x || y ≡ true → (x ≡ true → A) → (y ≡ true → A) → A
-or-true true y e f g = f refl
-or-true false y e f g = g e
-
-not-true : (x : Bool) → (x ≡ true → ⊥) → x ≡ false
-not-true true f = absurd (f refl)
-not-true false f = refl
 
 -- the first rule that has the byte, or a later one
 pick-this : (r : Rule) (rs : List Rule) (b : ℕ) (k : Stack) (ρ : Room) → takes r b ≡ true → pick (r ∷ rs) b k ρ ≡ apply r k ρ
@@ -41,8 +33,8 @@ takes-between r b e =
 between-takes : (r : Rule) (b : ℕ) → lowest r ≤ b → b ≤ highest r → takes r b ≡ true
 between-takes r b p q = rw (le-leb (lowest r) b p, le-leb b (highest r) q)
 
-apart-takes : (r : Rule) (b : ℕ) → (lowest r ≤ b → b ≤ highest r → ⊥) → takes r b ≡ false
-apart-takes r b f = not-true (takes r b) (λ e. f (takes-between r b e .0) (takes-between r b e .1))
+pub apart-takes : (r : Rule) (b : ℕ) → (lowest r ≤ b → b ≤ highest r → ⊥) → takes r b ≡ false
+apart-takes r b f = refuted (takes r b) (λ e. f (takes-between r b e .0) (takes-between r b e .1))
 
 -- where the rules take all of a range alike: what they make of it
 unfoldable pub landing : ℕ → ℕ → List Rule → Stack → Room → Option State
@@ -70,9 +62,9 @@ lands lo hi (r ∷ rs) k ρ st e b p q =
     by false covered true parted h again =
         pick-later r rs b k ρ
         (apart-takes r b
-        (λ l u. or-true (ltb (highest r) lo) (ltb hi (lowest r)) parted
-        (λ x. omega (arith, ltb-true (highest r) lo x))
-        (λ x. omega (arith, ltb-true hi (lowest r) x)))) ∙ again h
+        (λ l u. or-elim (ltb (highest r) lo) (ltb hi (lowest r)) (to-T parted)
+        (λ x. omega (arith, ltb→lt (highest r) lo x))
+        (λ x. omega (arith, ltb→lt hi (lowest r) x)))) ∙ again h
     by false covered false parted h again = cc
 
 -- the step of a whole range, by one computation

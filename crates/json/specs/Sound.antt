@@ -5,8 +5,9 @@ use mathlib.Core.List.{List, [], _∷_, _++_}
 use mathlib.Core.Bool.{Bool, true, false, _&&_, and-eq-true-iff}
 use Prim.Native.Nat.{ℕ, zero, suc, max}
 use native.Mathlib.Omega.{arith}
-use lib.Dec.{T, leb}
+use lib.Dec.{leb}
 use borrow.Author.Tests.{leb-true}
+use Rattle.bits.specs.Truth.{to-T}
 use Rattle.encoding.specs.Bytes as B
 use Rattle.encoding.specs.Bytes.{In, putIn, Blank, Blanks, blankByte, putBlanks}
 use Rattle.encoding.specs.BytesLaws.{Then, then}
@@ -115,9 +116,6 @@ abbrev Backs : (List ℕ → Type 0) → Stack → Room → List Rule → Type 0
 Backs L k ρ [] = Unit {0}
 Backs L k ρ (r ∷ rs) = Back L k ρ r × Backs L k ρ rs
 
-so : {b : Bool} → b ≡ true → T b
-so e = rw e tt
-
 the-byte : (n b : ℕ) → leb n b && leb b n ≡ true → n ≡ b
 the-byte n b e =
     let q = and-eq-true-iff (leb n b) (leb b n) .0 e in
@@ -126,7 +124,7 @@ the-byte n b e =
 back-rule : (L : List ℕ → Type 0) (k : Stack) (ρ : Room) (r : Rule) (b : ℕ) (s : List ℕ) → Back L k ρ r → takes r b ≡ true →
     RestOf (apply r k ρ) s → L (b ∷ s)
 back-rule L k ρ (one n c) b s h e r = rw (the-byte n b e) at (h s r)
-back-rule L k ρ (span lo hi c) b s h e r = h (record { byte = b; ok = so e }) s r
+back-rule L k ρ (span lo hi c) b s h e r = h (record { byte = b; ok = to-T e }) s r
 back-rule L k ρ (opens x) b s h e r = rw (the-byte (opening x) b e) at (h s r)
 back-rule L k ρ (closes x) b s h e r = rw (the-byte (closing x) b e) at (h s r)
 
@@ -498,29 +496,29 @@ back-step (at c k ρ) b s r = back-pick (Rest c k ρ) k ρ (rules c (top k)) b s
 done-after : (k : Stack) (ρ : Room) → isEmpty k ≡ true → After k ρ []
 unfolding putBlanks
 done-after [] ρ e = over []
-done-after (x ∷ k) ρ e = absurd (so e)
+done-after (x ∷ k) ρ e = absurd (to-T e)
 
 done : (c : Ctl) (k : Stack) (ρ : Room) → final c ≡ true → isEmpty k ≡ true → Rest c k ρ []
-done (item x o) k ρ f e = absurd (so f)
-done colon k ρ f e = absurd (so f)
+done (item x o) k ρ f e = absurd (to-T f)
+done colon k ρ f e = absurd (to-T f)
 done after k ρ f e = done-after k ρ e
-done (inString o) k ρ f e = absurd (so f)
-done (escaping o) k ρ f e = absurd (so f)
-done (hexDue n o) k ρ f e = absurd (so f)
-done (tailDue p n o) k ρ f e = absurd (so f)
-done (wordDue b bs) k ρ f e = absurd (so f)
-done afterMinus k ρ f e = absurd (so f)
+done (inString o) k ρ f e = absurd (to-T f)
+done (escaping o) k ρ f e = absurd (to-T f)
+done (hexDue n o) k ρ f e = absurd (to-T f)
+done (tailDue p n o) k ρ f e = absurd (to-T f)
+done (wordDue b bs) k ρ f e = absurd (to-T f)
+done afterMinus k ρ f e = absurd (to-T f)
 done afterZero k ρ f e = zero-over [] (done-after k ρ e)
 done inInt k ρ f e = int-over [] (zero-over [] (done-after k ρ e))
-done afterPoint k ρ f e = absurd (so f)
+done afterPoint k ρ f e = absurd (to-T f)
 done inFrac k ρ f e = frac-over [] (done-after k ρ e)
-done afterE k ρ f e = absurd (so f)
-done afterSign k ρ f e = absurd (so f)
+done afterE k ρ f e = absurd (to-T f)
+done afterSign k ρ f e = absurd (to-T f)
 done inExp k ρ f e = exp-over [] (done-after k ρ e)
 
 rest : (st : State) (s : List ℕ) → accept (run st s) ≡ true → RestOf st s
 unfolding run
-rest dead [] e = absurd (so e)
+rest dead [] e = absurd (to-T e)
 rest (at c k ρ) [] e = let q = and-eq-true-iff (final c) (isEmpty k) .0 e in done c k ρ (q .0) (q .1)
 rest st (b ∷ s) e = back-step st b s (rest (step st b) s e)
 

@@ -1,41 +1,31 @@
 -- From an item to its value, and on from a value: the innermost container's next item, or the container around it. Assumes nothing.
 use mathlib.Core.Path.{_≡_, refl, sym, ap, ap₂, subst, _∙_}
 use mathlib.Core.List.{List}
-use mathlib.Core.Bool.{Bool, true, false}
+use mathlib.Core.Bool.{Bool}
 use Prim.Native.Nat.{ℕ, _+_, _-_, _<_}
 use native.Mathlib.Omega.{arith}
 use lib.Dec.{eqb}
-use lib.ListN.{length, getD, drop, length-drop}
+use lib.ListN.{length, getD, drop}
 use lib.Seq.{slice}
-use Rattle.json.specs.Grammar.{Key, putKey, putValue, putMore}
+use Rattle.json.specs.Grammar.{putKey, putValue, putMore}
 use Rattle.query_parser.specs.Holds.{Holds}
 use Rattle.query.specs.Steps.{Step}
 use Rattle.query_parser.specs.declared.compiled.Compiled.{Compiled}
 use Rattle.select.specs.Nodes.{size, labelOf}
 use Rattle.select.specs.Visits.{visits}
 use Rattle.select.specs.Ways.{frameIf}
-use Rattle.scan.specs.Places.{past-blanks, past-key}
-use Rattle.scan.specs.Scans.{EndsBlanks, kindIf, NameAt, EntersItem}
-use Rattle.marks.specs.Advances.{LabelIs, by-name, by-position, Advances}
+use Rattle.scan.specs.Places.{same-place, past-blanks, past-key}
+use Rattle.scan.specs.Scans.{EndsBlanks, EntersItem}
+use Rattle.marks.specs.Advances.{Advances}
 use Rattle.automaton.specs.State.{nextMarks, nextPicked, next}
 use Rattle.automaton.specs.Tally.{Tally, tallied}
 use Rattle.automaton.specs.Halves.{finish}
 use Rattle.walk.specs.Ahead.{valueAt}
 use Rattle.walk.specs.AheadLaws as A
-use Rattle.pile.specs.Pile.{Pile, kindAt, Passed, root, item, ItemDue, ValueDue}
+use Rattle.walk.specs.Labels.{label-is}
+use Rattle.pile.specs.Pile.{Pile, kindAt, ValuePassed, root, item, ItemDue, ValueDue}
 use Rattle.pile.specs.PileLaws.{popped}
 use Rattle.pile.specs.Moves.{Pops}
-
--- the label of an item by where its name's bytes are
-label-is : (s : List ℕ) (a e : ℕ) (b : Bool) (key : Key (kindIf b)) (j : ℕ) → NameAt (kindIf b) key s a e
-    → LabelIs (slice a e s) b (labelOf (kindIf b) key j)
-unfolding labelOf
-label-is s a e true key j h = rw h by-name
-label-is s a e false key j h = by-position j
-
--- a text that is not empty ends the record from one place only
-same-place : (s : List ℕ) (a b : ℕ) → a < length s → drop a s ≡ drop b s → b ≡ a
-same-place s a b h e = omega (arith, length-drop a s, length-drop b s, ap length e)
 
 -- an item is ahead; its value stands at v, its name from a to e
 module _ {q : List ℕ} {c : Compiled} {x : List Step} (holds : Holds q x c) {s : List ℕ} {whole : Tally} {z : Pile} {i : ℕ} {t : Tally} {d f m : ℕ}
@@ -58,7 +48,7 @@ module _ {q : List ℕ} {c : Compiled} {x : List Step} (holds : Holds q x c) {s 
       let l = labelOf k (y .key) (y .j) in
       let g = subst (λ (n : Bool). EntersItem s i n v a e) object-is enters .exact (y .w) (y .key) (putValue (y .v) rest) (y .here)
       (A.key-solid (next x) s (o .rest) k (o .state) (o .room) (o .inner) (o .end) i t y) in
-      let label = label-is s a e (eqb (o .bracket) 0x7B) (y .key) (y .j) (g .1) in
+      let label = label-is s (eqb (o .bracket) 0x7B) (y .key) (y .j) a e (g .1) in
       let moves = subst (λ (n : Bool). Advances q c m (slice a e s) n m′ p) object-is advances in
       let goal : Tally = tallied t (visits (next x) (y .v) (next x (o .state) l) v) in
       let marks : m′ ≡ nextMarks x (o .state .marks) l = moves .marks-are x holds l label ∙ ap (λ (n : ℕ). nextMarks x n l) (due .level .marks) in
@@ -101,12 +91,12 @@ module _ {q : List ℕ} {c : Compiled} {x : List Step} (holds : Holds q x c) {s 
 module _ {x : List Step} {s : List ℕ} {whole : Tally} {z : Pile} {i : ℕ} {t : Tally} {d f m c : ℕ}
     (inner : d ≡ 0 → ⊥) (blanks : EndsBlanks s i c) where
   -- something follows
-  pub past-inside : Passed x s whole z i t d f m → c < length s
+  pub past-inside : ValuePassed x s whole z i t d f m → c < length s
   past-inside (root h e1 e2 e3) = absurd (inner e1)
   past-inside (item o l a p) = A.more-inside (next x) s (o .rest) (kindAt (o .bracket)) (o .state) (o .room) (o .inner) (o .end) i c t a blanks
 
   -- a comma, and then an item
-  pub past-comma : getD s c 0 ≡ 0x2C → Passed x s whole z i t d f m → ItemDue x s whole z (c + 1) t d f m
+  pub past-comma : getD s c 0 ≡ 0x2C → ValuePassed x s whole z i t d f m → ItemDue x s whole z (c + 1) t d f m
   past-comma e (root h e1 e2 e3) = absurd (inner e1)
   past-comma e (item o l a p) =
       record {
@@ -117,8 +107,8 @@ module _ {x : List Step} {s : List ℕ} {whole : Tally} {z : Pile} {i : ℕ} {t 
       }
 
   -- the closing bracket: the container is left
-  pub past-closed : {f′ m′ : ℕ} → (getD s c 0 ≡ 0x2C → ⊥) → Pops (z .levels) (z .held) f (d - 1) m f′ m′ → Passed x s whole z i t d f m
-      → Passed x s whole z (c + 1) (finish (getD (z .waits) (d - 1) 0) (c + 1) t) (d - 1) f′ m′
+  pub past-closed : {f′ m′ : ℕ} → (getD s c 0 ≡ 0x2C → ⊥) → Pops (z .levels) (z .held) f (d - 1) m f′ m′ → ValuePassed x s whole z i t d f m
+      → ValuePassed x s whole z (c + 1) (finish (getD (z .waits) (d - 1) 0) (c + 1) t) (d - 1) f′ m′
   past-closed e y (root h e1 e2 e3) = absurd (inner e1)
   past-closed {f′} {m′} e y (item o l a p) =
       let n = A.no-more (next x) s (o .rest) (kindAt (o .bracket)) (o .state) (o .room) (o .inner) (o .end) i c t a blanks e in

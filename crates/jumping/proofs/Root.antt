@@ -2,11 +2,12 @@
 use mathlib.Core.Path.{_≡_, refl, sym, ap, _∙_}
 use mathlib.Core.List.{List, []}
 use mathlib.Core.Bool.{Bool, true, false, true≢false}
-use Prim.Native.Nat.{ℕ, zero, suc, _+_, _-_, _≤_, _<_}
+use Prim.Native.Nat.{ℕ, _+_, _≤_, _<_}
 use native.Mathlib.Omega.{arith}
 use lib.Dec.{eqb}
 use lib.ListN.{length, drop}
 use borrow.Author.Tests.{eq-eqb}
+use Rattle.bits.specs.Truth.{refuted}
 use Rattle.encoding.specs.Bytes.{putBlanks}
 use Rattle.json.specs.Grammar.{Tree, text, nesting, putValue}
 use Rattle.json.specs.Verdict.{maxDepth}
@@ -24,8 +25,8 @@ use Rattle.automaton.specs.Start.{start-none, start-some}
 use Rattle.automaton.specs.State.{State, next, start}
 use Rattle.automaton.specs.Tally.{Tally, tallied, fresh}
 use Rattle.walk.specs.Walks.{Walks}
-use Rattle.pile.specs.Pile.{Pile, Sized, Passed, root, item, ValueDue}
-use Rattle.pile.specs.Due.{tallyOf, Due, Onward}
+use Rattle.pile.specs.Pile.{Pile, Sized, ValuePassed, root, item, ValueDue}
+use Rattle.pile.specs.Due.{tallyAt, Due, Onward}
 use Rattle.pile.specs.declared.Standing.{Standing}
 use Rattle.jumping.specs.Turns.{RootMarks, BeforeRoot, turnsLeft, Turns}
 
@@ -91,7 +92,7 @@ starts b r =
 
 pub root-comes : {q : List ℕ} {c : Compiled} {x : List Step} {s list : List ℕ} {whole : Tally} {z : Pile} {a : Standing} → Holds q x c
     → Due x s whole z list a → a .item ≡ true → a .depth ≡ 0
-    → ValueDue x s whole z (a .at) (tallyOf list a) (a .marks) (eqb (c .count) 0) (a .depth) (a .frames) (a .marks)
+    → ValueDue x s whole z (a .at) (tallyAt list a) (a .marks) (eqb (c .count) 0) (a .depth) (a .frames) (a .marks)
 root-comes h d e f = rw (h .count) (d .root e f)
 
 -- fewer turns are left
@@ -135,13 +136,9 @@ pub record Running (q : List ℕ) (c : Compiled) (s : List ℕ) (z₀ : Pile) (l
 
 -- nothing is ahead once the root is passed
 passed-whole : {x : List Step} {s : List ℕ} {whole : Tally} {z : Pile} {i : ℕ} {t : Tally} {d f m : ℕ}
-    → d ≡ 0 → Passed x s whole z i t d f m → t ≡ whole
+    → d ≡ 0 → ValuePassed x s whole z i t d f m → t ≡ whole
 passed-whole e (root h e1 e2 e3) = e3
 passed-whole e (item o l a p) = absurd (omega (arith, l .depth))
-
-no-item : (b : Bool) → (b ≡ true → ⊥) → b ≡ false
-no-item true h = absurd (h refl)
-no-item false h = refl
 
 pub running-starts : {q : List ℕ} {c : Compiled} {s list : List ℕ} {z : Pile} {n : ℕ} {a : Standing} → BeforeRoot s n a → Running q c s z list a z list a
 running-starts y =
@@ -174,5 +171,5 @@ module _ {q : List ℕ} {c : Compiled} {s : List ℕ} {z₀ z z′ : Pile} {list
         counts = λ x k t f n.
             let whole = tallied (fresh list₀) (nodeVisits (next x) (N.root t) (start x)) in
             let d = turn .keeps x k whole (before .keeps x k whole (y .due x (k .count) t f n z₀ h list₀)) in
-            sym (passed-whole e (d .passed (no-item (r .item) (λ g. turn .in-container g e))));
+            sym (passed-whole e (d .passed (refuted (r .item) (λ g. turn .in-container g e))));
       }

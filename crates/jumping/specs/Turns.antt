@@ -13,8 +13,8 @@ use Rattle.select.specs.Nodes.{root}
 use Rattle.select.specs.Visits.{nodeVisits}
 use Rattle.automaton.specs.State.{next, start}
 use Rattle.automaton.specs.Tally.{Tally, tallied, fresh}
-use Rattle.pile.specs.Pile.{Pile, pile, Sized, Passed, ValueDue}
-use Rattle.pile.specs.Due.{tallyOf, Due, Onward}
+use Rattle.pile.specs.Pile.{Pile, pile, Sized, ValuePassed, ValueDue}
+use Rattle.pile.specs.Due.{tallyAt, Due, Onward}
 use Rattle.pile.specs.declared.Standing.{Standing}
 use Rattle.pile.specs.declared.Coming.{Coming}
 
@@ -35,14 +35,14 @@ pub record Comes (q : List ℕ) (c : Compiled) (s : List ℕ) (brackets : List �
   pub onward : a .at ≤ r .at
   pub within : r .at ≤ length s
   pub due : (x : List Step) → Holds q x c → (whole : Tally) (levels held waits list : List ℕ) → Due x s whole (pile levels held waits brackets) list a
-      → ValueDue x s whole (pile levels held waits brackets) (r .at) (tallyOf list a) (r .marks) (r .picked) (a .depth) (a .frames) (a .marks)
+      → ValueDue x s whole (pile levels held waits brackets) (r .at) (tallyAt list a) (r .marks) (r .picked) (a .depth) (a .frames) (a .marks)
 
 -- past a comma, or past the closing bracket of the innermost container
 pub record GoesOn (s : List ℕ) (levels held waits list list′ : List ℕ) (a r : Standing) : Type 0 where
   pub onward : Onward (length s) (a .at) r
   pub farther : a .at < r .at
   pub keeps : (x : List Step) (whole : Tally) (brackets : List ℕ)
-      → Passed x s whole (pile levels held waits brackets) (a .at) (tallyOf list a) (a .depth) (a .frames) (a .marks)
+      → ValuePassed x s whole (pile levels held waits brackets) (a .at) (tallyAt list a) (a .depth) (a .frames) (a .marks)
       → Due x s whole (pile levels held waits brackets) list′ r
 
 -- how many turns there may still be, in a record of n bytes

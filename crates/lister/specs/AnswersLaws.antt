@@ -1,7 +1,7 @@
 -- From what is admitted and what the walk promises to a lister's promise. Assumes nothing.
 use mathlib.Core.Path.{_≡_, refl, ap, _∙_}
 use mathlib.Core.List.{List}
-use Prim.Native.Nat.{ℕ, zero, suc, _+_, _≤_}
+use Prim.Native.Nat.{ℕ, zero, suc, _≤_}
 use native.Mathlib.Nat.{min-le-right}
 use native.Mathlib.Omega.{arith}
 use lib.ListN.{length, length-take}
@@ -11,8 +11,9 @@ use Rattle.query.specs.Verdict.{stepsIn}
 use Rattle.select.specs.Ways.{spans}
 use Rattle.answers.specs.Lister.{pairsOf}
 use Rattle.answers.specs.Within.{RecordIs}
+use Rattle.answers.specs.WithinLaws.{taken-record}
 use Rattle.automaton.specs.Bounds.{spans-few, peak-few, stop-few}
-use Rattle.automaton.specs.Lists.{taken-record, lists-all, lists-left}
+use Rattle.automaton.specs.Lists.{lists-all, lists-left}
 use Rattle.automaton.specs.TallyIs.{Whole, tally-is}
 use Rattle.marks.specs.Advances.{Fits}
 use Rattle.pairs.specs.Pairs.{tally}

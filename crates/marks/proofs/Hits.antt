@@ -12,10 +12,11 @@ use lib.ListN.{length, getD}
 use lib.Seq.{slice}
 use Rattle.bits.specs.Bits.{bit, Lowest}
 use Rattle.bits.specs.Laws.{lt-or-ge, bit-zero, bit-test, bit-shr}
+use Rattle.encoding.specs.Bytes.{sameBytes}
 use Rattle.marks.specs.Advances.{Fits, Bounds, namedHit}
 use Rattle.query.specs.Verdict.{maxSteps}
 use Rattle.query_parser.specs.declared.compiled.Compiled.{Compiled}
-use Rattle.select.specs.Ways.{sameName, frameIf}
+use Rattle.select.specs.Ways.{frameIf}
 
 pub frames-same : (a m k : ℕ) → a ≡ m → k ≡ frameIf (eqb a m) k
 unfolding frameIf
@@ -35,8 +36,8 @@ module _ (m i x : ℕ) (asked : Bool) (shift : x ≡ bitAnd (m / 2 ^ i) 1) where
 
 -- mark i is on, and the name between the bounds at i is this one
 unfoldable pub boundHit : (q starts ends : List ℕ) (marks : ℕ) (name : List ℕ) → ℕ → Bool
-unfolding bit sameName
-boundHit q starts ends m name i = bit i m && sameName (slice (getD starts i 0) (getD ends i 0) q) name
+unfolding bit sameBytes
+boundHit q starts ends m name i = bit i m && sameBytes (slice (getD starts i 0) (getD ends i 0) q) name
 
 -- the bounds beside a compiled query are those of its names
 module _ {c : Compiled} {starts ends : List ℕ} (b : Bounds c starts ends) where
@@ -96,7 +97,7 @@ module _ (f : ℕ → Bool) (count : ℕ) where
 module _ (q starts ends : List ℕ) (m : ℕ) (name : List ℕ) where
   off-hit : (j : ℕ) → bit j m ≡ false → boundHit q starts ends m name j ≡ false
   unfolding boundHit
-  off-hit j e = ap (λ (b : Bool). b && sameName (slice (getD starts j 0) (getD ends j 0) q) name) e
+  off-hit j e = ap (λ (b : Bool). b && sameBytes (slice (getD starts j 0) (getD ends j 0) q) name) e
 
   pub below-lowest : (i : ℕ) → Lowest 64 m i → (j : ℕ) → j < i → boundHit q starts ends m name j ≡ false
   below-lowest i x j l = off-hit j (x .none-below j l)

@@ -15,13 +15,15 @@ use lib.Pow.{shl-exact, pow-pos, pow-mono}
 use Rattle.bits.specs.Bits.{bit, number}
 use Rattle.bits.specs.Laws.{lt-or-ge, bit-and, bit-or, bit-zero, bit-shl, bit-test, number-of, shifted}
 use Rattle.bits.specs.Truth.{truth}
+use Rattle.encoding.specs.Bytes.{sameBytes}
 use Rattle.query_parser.specs.Holds.{Holds, everyAt, namedAt, nameAt}
 use Rattle.query.specs.Steps as S
 use Rattle.query.specs.Steps.{Step, Selector, isDeep}
+use Rattle.query.specs.StepsLaws.{no-step}
 use Rattle.query_parser.specs.declared.compiled.Compiled.{Compiled}
 use Rattle.select.specs.Nodes.{Label, member, element}
-use Rattle.select.specs.MarksStep.{stepHits, step-some}
-use Rattle.select.specs.Ways.{sameName, hits}
+use Rattle.select.specs.MarksStep.{stepHits}
+use Rattle.select.specs.Ways.{hits}
 use Rattle.automaton.specs.State.{nextMark, nextMarks, pickAt, nextPicked}
 use Rattle.marks.specs.Advances.{namedHit, LabelIs, by-name, by-position, Taken, Advances}
 
@@ -35,7 +37,7 @@ hits-element (some s) j = go (s .selector)
     go (S.name w) = refl
     go S.every = refl
 
-hits-member : (o : Option Step) (w : List ℕ) → (everyAt o || (namedAt o && sameName (nameAt o) w)) ≡ stepHits o (member w)
+hits-member : (o : Option Step) (w : List ℕ) → (everyAt o || (namedAt o && sameBytes (nameAt o) w)) ≡ stepHits o (member w)
 unfolding stepHits hits
 hits-member none w = refl
 hits-member (some s) w = go (s .selector)
@@ -43,16 +45,9 @@ hits-member (some s) w = go (s .selector)
     by : Selector → Option Step
     by sel = some (record { deep = s .deep; selector = sel })
 
-    go : (sel : Selector) → (everyAt (by sel) || (namedAt (by sel) && sameName (nameAt (by sel)) w)) ≡ hits sel (member w)
+    go : (sel : Selector) → (everyAt (by sel) || (namedAt (by sel) && sameBytes (nameAt (by sel)) w)) ≡ hits sel (member w)
     go (S.name v) = refl
     go S.every = refl
-
-no-step : (x : List Step) (i : ℕ) → length x ≤ i → getElem? x i ≡ none
-no-step x i l = go (getElem? x i) refl
-  where
-    go : (o : Option Step) → getElem? x i ≡ o → getElem? x i ≡ none
-    go none e = e
-    go (some s) e = absurd (omega (arith, step-some x i e))
 
 module _ (q : List ℕ) (c : Compiled) (m : ℕ) (name : List ℕ) where
   pub taken-element : (o : Bool) → o ≡ false → Taken q c m name o (bitAnd m (c .every))
@@ -71,7 +66,7 @@ module _ (q : List ℕ) (c : Compiled) (m : ℕ) (name : List ℕ) where
       go x h l by-name i =
           let none-on : (bit i m && namedAt (getElem? x i)) ≡ false =
           ap (λ (b : Bool). bit i m && b) (sym (h .named i)) ∙ sym (bit-and i m (c .named)) ∙ ap (bit i) z ∙ bit-zero i in
-          let same = sameName (nameAt (getElem? x i)) name in
+          let same = sameBytes (nameAt (getElem? x i)) name in
           bit-and i m (c .every)
           ∙ ap (λ (b : Bool). bit i m && b) (h .every i)
           ∙ sym (or-false (bit i m && everyAt (getElem? x i)))
@@ -87,7 +82,7 @@ module _ (q : List ℕ) (c : Compiled) (m : ℕ) (name : List ℕ) where
   taken-named o r e f = rw e (record { taken = λ x h l i. go x h l i })
     where
       hit-by : List Step → ℕ → Bool
-      hit-by x i = namedAt (getElem? x i) && sameName (nameAt (getElem? x i)) name
+      hit-by x i = namedAt (getElem? x i) && sameBytes (nameAt (getElem? x i)) name
 
       named-is : (x : List Step) → Holds q x c → (i : ℕ) → bit i r ≡ (bit i m && hit-by x i)
       named-is x h i = f i ∙ ⊎-elim inside outside (lt-or-ge i (c .count))
@@ -95,16 +90,16 @@ module _ (q : List ℕ) (c : Compiled) (m : ℕ) (name : List ℕ) where
           inside : i < c .count → (ltb i (c .count) && namedHit q c (bitAnd m (c .named)) name i) ≡ (bit i m && hit-by x i)
           inside l =
               ap (λ (b : Bool). b && namedHit q c (bitAnd m (c .named)) name i) (lt-ltb i (c .count) l)
-              ∙ ap₂ (λ (a : Bool) (w : List ℕ). a && sameName w name)
+              ∙ ap₂ (λ (a : Bool) (w : List ℕ). a && sameBytes w name)
               (bit-and i m (c .named) ∙ ap (λ (b : Bool). bit i m && b) (h .named i))
               (h .name i (omega (arith, h .count, h .few)))
-              ∙ and-assoc (bit i m) (namedAt (getElem? x i)) (sameName (nameAt (getElem? x i)) name)
+              ∙ and-assoc (bit i m) (namedAt (getElem? x i)) (sameBytes (nameAt (getElem? x i)) name)
 
           outside : c .count ≤ i → (ltb i (c .count) && namedHit q c (bitAnd m (c .named)) name i) ≡ (bit i m && hit-by x i)
           outside l =
               ap (λ (b : Bool). b && namedHit q c (bitAnd m (c .named)) name i) (le-ltb i (c .count) l)
               ∙ sym (and-false (bit i m))
-              ∙ ap (λ (o : Option Step). bit i m && (namedAt o && sameName (nameAt o) name))
+              ∙ ap (λ (o : Option Step). bit i m && (namedAt o && sameBytes (nameAt o) name))
               (sym (no-step x i (omega (arith, h .count))))
 
       go : (x : List Step) → Holds q x c → (l : Label) → LabelIs name true l → (i : ℕ)
@@ -113,7 +108,7 @@ module _ (q : List ℕ) (c : Compiled) (m : ℕ) (name : List ℕ) where
           bit-or i (bitAnd m (c .every)) r
           ∙ ap₂ (λ (a b : Bool). a || b) (bit-and i m (c .every) ∙ ap (λ (b : Bool). bit i m && b) (h .every i)) (named-is x h i)
           ∙ truth 4 (λ a b d e. (a && b) || (a && (d && e))) (λ a b d e. a && (b || (d && e))) tt
-          (bit i m) (everyAt (getElem? x i)) (namedAt (getElem? x i)) (sameName (nameAt (getElem? x i)) name)
+          (bit i m) (everyAt (getElem? x i)) (namedAt (getElem? x i)) (sameBytes (nameAt (getElem? x i)) name)
           ∙ ap (λ (b : Bool). bit i m && b) (hits-member (getElem? x i) name)
 
 -- no steps: no marks, and no child is picked out

@@ -6,13 +6,13 @@ use Prim.Native.Nat.{ℕ, _≤_, _<_}
 use lib.ListN.{length, getD, getElem?}
 use lib.Seq.{slice}
 use Rattle.bits.specs.Bits.{bit}
+use Rattle.encoding.specs.Bytes.{sameBytes}
 use Rattle.query_parser.specs.Holds.{Holds}
 use Rattle.query.specs.Steps.{Step}
 use Rattle.query.specs.Verdict.{maxSteps}
 use Rattle.query_parser.specs.declared.compiled.Compiled.{Compiled}
 use Rattle.select.specs.Nodes.{Label, member, element}
 use Rattle.select.specs.MarksStep.{stepHits}
-use Rattle.select.specs.Ways.{sameName}
 use Rattle.automaton.specs.State.{nextMarks, nextPicked}
 
 -- the names of a compiled query lie in the query
@@ -30,8 +30,8 @@ pub record Bounds (c : Compiled) (starts ends : List ℕ) : Type 0 where
 
 -- mark i is on, and the name of step i is this one
 unfoldable pub namedHit : List ℕ → Compiled → (marks : ℕ) → (name : List ℕ) → ℕ → Bool
-unfolding bit sameName
-namedHit q c m name i = bit i m && sameName (slice (getD (c .starts) i 0) (getD (c .ends) i 0) q) name
+unfolding bit sameBytes
+namedHit q c m name i = bit i m && sameBytes (slice (getD (c .starts) i 0) (getD (c .ends) i 0) q) name
 
 -- the label of a member by its name's bytes, or of an element
 pub data LabelIs (name : List ℕ) : (isObject : Bool) → Label → Type 0 where

@@ -1,15 +1,16 @@
 // Marks as the bits of one 16-bit number: which steps take a child, and the child's marks.
 use query_parser::Compiled;
 ghost use mathlib.Core.Path.{_≡_};
-ghost use mathlib.Core.Bool.{Bool, true, false, _&&_};
+ghost use mathlib.Core.Bool.{true, false, _&&_};
 ghost use Prim.Native.Nat.{ℕ, _≤_, _<_};
 ghost use lib.Dec.{ltb, eqb};
 ghost use lib.ListN.{length};
 ghost use lib.Seq.{slice};
 ghost use Rattle.bits.specs.Bits.{bit};
+ghost use Rattle.encoding.specs.Bytes.{sameBytes};
 ghost use Rattle.json.specs.Verdict.{maxDepth};
 ghost use Rattle.query.specs.Verdict.{maxSteps};
-ghost use Rattle.select.specs.Ways.{sameName, frameIf};
+ghost use Rattle.select.specs.Ways.{frameIf};
 ghost use Rattle.marks.specs.Advances.{Fits, Bounds, namedHit, Taken, Advances};
 
 // A child's marks, and whether it is picked out.
@@ -22,7 +23,7 @@ pub struct Advanced {
 fn same_name(query: &[u8], from: usize, to: usize, record: &[u8], x: usize, y: usize) -> bool
     requires { ⌜ (from ≤ to) × (to ≤ length (now query)) ⌝ }
     requires { ⌜ (x ≤ y) × (y ≤ length (now «record»)) ⌝ }
-    ensures { λ r. ⌜ r ≡ sameName (slice from to (now (query .entry))) (slice x y (now («record» .entry))) ⌝ }
+    ensures { λ r. ⌜ r ≡ sameBytes (slice from to (now (query .entry))) (slice x y (now («record» .entry))) ⌝ }
 {
     if to - from != y - x {
         return false;
@@ -53,7 +54,7 @@ fn hit(
     requires { ⌜ i < maxSteps ⌝ }
     requires { ⌜ (from ≤ to) × (to ≤ length (now query)) ⌝ }
     requires { ⌜ (x ≤ y) × (y ≤ length (now «record»)) ⌝ }
-    ensures { λ r. ⌜ r ≡ (bit i marks && sameName (slice from to (now (query .entry))) (slice x y (now («record» .entry)))) ⌝ }
+    ensures { λ r. ⌜ r ≡ (bit i marks && sameBytes (slice from to (now (query .entry))) (slice x y (now («record» .entry)))) ⌝ }
 {
     if marks >> i & 1 != 1 {
         return false;

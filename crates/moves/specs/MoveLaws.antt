@@ -10,7 +10,7 @@ use lib.Dec.{T, leb, ltb, eqb, leb→le, eqb→eq}
 use lib.ListN.{length, getD, set, replicate, length-set, getD-replicate}
 use lib.Seq.{getD-set-same, getD-set-other}
 use borrow.Author.Tests.{leb-true, ltb-true, ltb-false, eqb-true, eqb-false, le-leb, lt-leb, lt-ltb, le-ltb, ne-eqb}
-use Rattle.bits.specs.Truth.{and-left, and-right, allBelow, all-at}
+use Rattle.bits.specs.Truth.{and-left, and-right, or-elim, allBelow, all-at}
 use Rattle.encoding.specs.Utf8.{rows}
 use Rattle.encoding.specs.RowTable.{RowIs}
 use Rattle.encoding.specs.Utf8Steps as U
@@ -134,16 +134,12 @@ stand-is escape = refl
 same-stand : (p q : Stand) → stateOf p ≡ stateOf q → p ≡ q
 same-stand p q e = sym (stand-is p) ∙ ap standOf e ∙ stand-is q
 
-or-so : {A : Type 0} (x y : Bool) → T (x || y) → (T x → A) → (T y → A) → A
-or-so true y t f g = f t
-or-so false y t f g = g t
-
 -- and the machine goes there
 found : {p : Stand} {b r : ℕ} {ms : List Move} → AllLand ms → T (leadsTo ms p b r) → Followed p b r
 unfolding leadsTo
 found none t = absurd t
 found {p} {b} {r} (_&_ {m} {ms} x xs) t =
-    or-so (covered && states) (leadsTo ms p b r) t
+    or-elim (covered && states) (leadsTo ms p b r) t
     (λ h.
     let c = and-left covered states h in
     let e = and-right covered states h in
@@ -213,7 +209,7 @@ leads-all {t} a = record { nowhere = λ b h. word b h 0 ∙ eqb→eq (stateAfter
     leads : (p : Stand) (b : ℕ) → b < 256 → Followed p b (bitAnd (getD t b 0 / 2 ^ stateOf p) 63)
     leads p b h =
         subst (Followed p b) (sym (word b h (stateOf p)))
-        (or-so (eqb (stateAfter b (stateOf p)) 0) (leadsTo allMoves p b (stateAfter b (stateOf p))) (all-at 256 (sound p) (all-sound p) b h)
+        (or-elim (eqb (stateAfter b (stateOf p)) 0) (leadsTo allMoves p b (stateAfter b (stateOf p))) (all-at 256 (sound p) (all-sound p) b h)
         (λ x. nowhere-by (eqb→eq (stateAfter b (stateOf p)) 0 x))
         (λ x. found all-land x))
 

@@ -9,18 +9,18 @@ use Rattle.json.specs.Verdict.{maxDepth}
 use Rattle.query.specs.Steps.{Step}
 use Rattle.automaton.specs.Tally.{Tally}
 use Rattle.pairs.specs.Pairs.{tally}
-use Rattle.pile.specs.Pile.{Pile, Passed, ItemDue, ValueDue}
+use Rattle.pile.specs.Pile.{Pile, ValuePassed, ItemDue, ValueDue}
 use Rattle.pile.specs.declared.Standing.{Standing}
 
-abbrev pub tallyOf : List ℕ → Standing → Tally
-tallyOf list a = tally list (a .used) (a .peak) (a .stop)
+abbrev pub tallyAt : List ℕ → Standing → Tally
+tallyAt list a = tally list (a .used) (a .peak) (a .stop)
 
 -- what is ahead at a place: the root, an item of the innermost container, or what follows a value that has been passed
 pub record Due (x : List Step) (s : List ℕ) (whole : Tally) (z : Pile) (list : List ℕ) (a : Standing) : Type 0 where
   pub root : a .item ≡ true → a .depth ≡ 0
-      → ValueDue x s whole z (a .at) (tallyOf list a) (a .marks) (eqb (length x) 0) (a .depth) (a .frames) (a .marks)
-  pub item : a .item ≡ true → (a .depth ≡ 0 → ⊥) → ItemDue x s whole z (a .at) (tallyOf list a) (a .depth) (a .frames) (a .marks)
-  pub passed : a .item ≡ false → Passed x s whole z (a .at) (tallyOf list a) (a .depth) (a .frames) (a .marks)
+      → ValueDue x s whole z (a .at) (tallyAt list a) (a .marks) (eqb (length x) 0) (a .depth) (a .frames) (a .marks)
+  pub item : a .item ≡ true → (a .depth ≡ 0 → ⊥) → ItemDue x s whole z (a .at) (tallyAt list a) (a .depth) (a .frames) (a .marks)
+  pub passed : a .item ≡ false → ValuePassed x s whole z (a .at) (tallyAt list a) (a .depth) (a .frames) (a .marks)
 
 -- in a record of n bytes, on from place i
 pub record Onward (n i : ℕ) (r : Standing) : Type 0 where

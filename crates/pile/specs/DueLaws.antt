@@ -8,9 +8,9 @@ use Rattle.json.specs.Verdict.{maxDepth}
 use Rattle.query.specs.Steps.{Step}
 use Rattle.automaton.specs.Tally.{Tally}
 use Rattle.automaton.specs.Halves.{finish}
-use Rattle.pile.specs.Pile.{Pile, kept, Passed, ItemDue}
+use Rattle.pile.specs.Pile.{Pile, kept, ValuePassed, ItemDue}
 use Rattle.pile.specs.Moves.{Lost, PassedTo, EnteredAt}
-use Rattle.pile.specs.Due.{tallyOf, Due, Onward}
+use Rattle.pile.specs.Due.{tallyAt, Due, Onward}
 use Rattle.pile.specs.declared.Coming.{Coming}
 use Rattle.pile.specs.declared.Standing.{Standing}
 
@@ -72,13 +72,13 @@ onward-entered y g h k e =
 module _ {x : List Step} {s : List ℕ} {whole : Tally} where
   -- a value has been passed
   pub due-passed : {z : Pile} {l l′ : List ℕ} {w e : ℕ} {a r : Standing} → PassedTo l l′ w e a r
-      → Passed x s whole z e (finish w e (tallyOf l a)) (a .depth) (a .frames) (a .marks) → Due x s whole z l′ r
+      → ValuePassed x s whole z e (finish w e (tallyAt l a)) (a .depth) (a .frames) (a .marks) → Due x s whole z l′ r
   unfolding finish
   due-passed y p =
       rw (y .is, y .list-is) (record { root = λ e. absurd (false≢true e); item = λ e. absurd (false≢true e); passed = λ e. p })
 
   -- a container has been entered
   pub due-entered : {z z′ : Pile} {l : List ℕ} {b c w f : ℕ} {v : Coming} {a r : Standing} → EnteredAt z z′ b c w f v a r
-      → ItemDue x s whole (kept z (a .frames) (a .depth) (a .marks) w b) c (tallyOf l a) (a .depth + 1) f (v .marks) → Due x s whole z′ l r
+      → ItemDue x s whole (kept z (a .frames) (a .depth) (a .marks) w b) c (tallyAt l a) (a .depth + 1) f (v .marks) → Due x s whole z′ l r
   due-entered y p =
       rw (y .is, y .pile-is) (record { root = λ e g. absurd (omega arith); item = λ e g. p; passed = λ e. absurd (true≢false e) })

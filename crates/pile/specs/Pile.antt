@@ -72,15 +72,15 @@ pub record Level (z : Pile) (o : Open) (d f m : ℕ) : Type 0 where
 module _ (x : List Step) (s : List ℕ) (whole : Tally) (z : Pile) where
   -- a value has been passed at place i with the tally t, at depth d: the root, and nothing is ahead; or an item of the innermost container,
   -- after which more of it is ahead, the end of its own pair, and then what is ahead where it has been passed itself
-  pub data Passed : (i : ℕ) → Tally → (d f m : ℕ) → Type 0 where
-    root : {i : ℕ} {t : Tally} {d f m : ℕ} → Sized z → d ≡ 0 → f ≡ 0 → t ≡ whole → Passed i t d f m
+  pub data ValuePassed : (i : ℕ) → Tally → (d f m : ℕ) → Type 0 where
+    root : {i : ℕ} {t : Tally} {d f m : ℕ} → Sized z → d ≡ 0 → f ≡ 0 → t ≡ whole → ValuePassed i t d f m
     item : {i : ℕ} {t : Tally} {d f m : ℕ} (o : Open) → Level z o d f m
         → MoreAhead (next x) s (o .rest) (kindAt (o .bracket)) (o .state) (o .room) (o .inner) (o .end) i t
-        → Passed (o .end) (finish (o .wait) (o .end) (o .inner)) (o .depth) (o .frames) (o .marks) → Passed i t d f m
+        → ValuePassed (o .end) (finish (o .wait) (o .end) (o .inner)) (o .depth) (o .frames) (o .marks) → ValuePassed i t d f m
 
   -- what is ahead after the container o
   abbrev pub After : Open → Type 0
-  After o = Passed (o .end) (finish (o .wait) (o .end) (o .inner)) (o .depth) (o .frames) (o .marks)
+  After o = ValuePassed (o .end) (finish (o .wait) (o .end) (o .inner)) (o .depth) (o .frames) (o .marks)
 
   -- an item of the innermost container is ahead
   pub record ItemDue (i : ℕ) (t : Tally) (d f m : ℕ) : Type 0 where
@@ -101,7 +101,7 @@ module _ (x : List Step) (s : List ℕ) (whole : Tally) (z : Pile) where
     pub picked-is : state .picked ≡ p
     pub frames-are : state .frames ≡ frameIf (eqb m m′) f
     pub ahead : ValueAhead (next x) s rest state room goal end i t
-    pub after : Passed end goal d f m
+    pub after : ValuePassed end goal d f m
 
   -- a container with the marks m′ has its opening bracket at place i; its pair, which waits for its end, is begun
   pub record ContainerDue (i : ℕ) (t : Tally) (w m′ : ℕ) (d f m : ℕ) : Type 0 where
@@ -114,4 +114,4 @@ module _ (x : List Step) (s : List ℕ) (whole : Tally) (z : Pile) where
     pub marks-are : state .marks ≡ m′
     pub frames-are : state .frames ≡ frameIf (eqb m m′) f
     pub ahead : ItemsAhead (next x) s rest (kindAt (getD s i 0)) state room inner end (i + 1) (raised (state .frames) t)
-    pub after : Passed end (finish w end inner) d f m
+    pub after : ValuePassed end (finish w end inner) d f m

@@ -3,7 +3,7 @@
 use mathlib.Core.Path.{_≡_, refl, sym, ap, _∙_}
 use mathlib.Core.List.{List}
 use mathlib.Core.Bool.{Bool, true, false}
-use Prim.Native.Nat.{ℕ, zero, suc, _+_, _-_, _≤_, _<_}
+use Prim.Native.Nat.{ℕ, _+_, _≤_, _<_}
 use native.Mathlib.Omega.{arith}
 use lib.Dec.{eqb}
 use lib.ListN.{length, getD, replicate, length-set, length-replicate}
@@ -13,7 +13,7 @@ use Rattle.query.specs.Steps.{Step}
 use Rattle.json.specs.Verdict.{maxDepth}
 use Rattle.select.specs.Ways.{frameIf}
 use Rattle.automaton.specs.Tally.{Tally}
-use Rattle.pile.specs.Pile.{Pile, pile, kept, Sized, Open, Framed, shared, own, Level, Passed, root, item}
+use Rattle.pile.specs.Pile.{Pile, pile, kept, Sized, Open, Framed, shared, own, Level, ValuePassed, root, item}
 use Rattle.pile.specs.Moves.{Pops, other, topmost}
 
 pub pile-same : {l l′ h h′ w b : List ℕ} → l ≡ l′ → h ≡ h′ → pile l h w b ≡ pile l′ h′ w b
@@ -48,22 +48,22 @@ framed-popped {z} {o} (own e1 e2 e3) h (topmost k e g) =
     (j, ap (λ (y : ℕ). getD (z .held) y 0) j ∙ e3)
 
 module _ {x : List Step} {s : List ℕ} {whole : Tally} {z : Pile} where
-  pub passed-sized : {i : ℕ} {t : Tally} {d f m : ℕ} → Passed x s whole z i t d f m → Sized z
+  pub passed-sized : {i : ℕ} {t : Tally} {d f m : ℕ} → ValuePassed x s whole z i t d f m → Sized z
   passed-sized (root h e1 e2 e3) = h
   passed-sized (item o l a p) = passed-sized p
 
   -- there are no more frames than open containers
-  pub passed-few : {i : ℕ} {t : Tally} {d f m : ℕ} → Passed x s whole z i t d f m → f ≤ d
+  pub passed-few : {i : ℕ} {t : Tally} {d f m : ℕ} → ValuePassed x s whole z i t d f m → f ≤ d
   passed-few (root h e1 e2 e3) = omega arith
   passed-few (item o l a p) = framed-few (l .frame) (passed-few p) (l .depth)
 
   -- the depth in the topmost frame is that of an open container
-  passed-top : {i : ℕ} {t : Tally} {d f m : ℕ} (k : ℕ) → f ≡ k + 1 → Passed x s whole z i t d f m → getD (z .levels) k 0 < d
+  passed-top : {i : ℕ} {t : Tally} {d f m : ℕ} (k : ℕ) → f ≡ k + 1 → ValuePassed x s whole z i t d f m → getD (z .levels) k 0 < d
   passed-top k e (root h e1 e2 e3) = absurd (omega arith)
   passed-top k e (item o l a p) = framed-top k e (l .frame) (λ g. passed-top k g p) (l .depth)
 
   -- what the pile gives when the innermost container is left is what was around it
-  pub popped : {o : Open} {i : ℕ} {t : Tally} {d f m f′ m′ : ℕ} → Level z o d f m → Passed x s whole z i t (o .depth) (o .frames) (o .marks)
+  pub popped : {o : Open} {i : ℕ} {t : Tally} {d f m f′ m′ : ℕ} → Level z o d f m → ValuePassed x s whole z i t (o .depth) (o .frames) (o .marks)
       → Pops (z .levels) (z .held) f (o .depth) m f′ m′ → (f′ ≡ o .frames) × (m′ ≡ o .marks)
   popped l p q = framed-popped (l .frame) (λ k e. passed-top k e p) q
 
@@ -102,7 +102,7 @@ module _ {z : Pile} (f d m w b : ℕ) where
   framed-below (own e1 e2 e3) h = omega arith
 
   pub passed-kept : {x : List Step} {s : List ℕ} {whole : Tally} {i : ℕ} {t : Tally} {d′ f′ m′ : ℕ} → f′ ≤ f → d′ ≤ d
-      → Passed x s whole z i t d′ f′ m′ → Passed x s whole (kept z f d m w b) i t d′ f′ m′
+      → ValuePassed x s whole z i t d′ f′ m′ → ValuePassed x s whole (kept z f d m w b) i t d′ f′ m′
   passed-kept h g (root y e1 e2 e3) = root (sized-kept y) e1 e2 e3
   passed-kept h g (item o l a p) = item o (level-kept h g l) a (passed-kept (framed-below (l .frame) h) (omega (arith, l .depth)) p)
 

@@ -3,14 +3,14 @@
 use mathlib.Core.Path.{_≡_, refl, sym, ap, ap₂, _∙_}
 use mathlib.Core.List.{List, [], _∷_}
 use mathlib.Core.Bool.{Bool, true, false, false≢true}
-use Prim.Native.Nat.{ℕ, zero, suc, _+_, _-_, _≤_, _<_}
+use Prim.Native.Nat.{ℕ, _+_, _-_, _≤_, _<_}
 use native.Mathlib.Omega.{arith}
 use lib.Dec.{eqb}
 use lib.ListN.{length, drop, getD, length-drop}
 use lib.Seq.{slice}
 use Rattle.encoding.specs.Bytes.{putBlanks}
 use Rattle.encoding.specs.Class.{classOf}
-use Rattle.json.specs.Grammar.{Kind, Key, putKey, putValue, putMore, text}
+use Rattle.json.specs.Grammar.{Kind, putKey, putValue, putMore, text}
 use Rattle.json.specs.Verdict.{maxDepth}
 use Rattle.query_parser.specs.Holds.{Holds}
 use Rattle.query.specs.Steps.{Step}
@@ -18,19 +18,20 @@ use Rattle.query_parser.specs.declared.compiled.Compiled.{Compiled}
 use Rattle.select.specs.Nodes.{Label, size, root, labelOf}
 use Rattle.select.specs.Visits.{visits, nodeVisits}
 use Rattle.select.specs.Ways.{frameIf}
-use Rattle.scan.specs.Places.{past-blanks, past-key}
-use Rattle.scan.specs.Scans.{EndsBlanks, EndsScalar, NameAt, EntersItem, kindIf}
+use Rattle.scan.specs.Places.{same-place, past-blanks, past-key}
+use Rattle.scan.specs.Scans.{EndsBlanks, EndsScalar, EntersItem, kindIf}
 use Rattle.scan.specs.Shape.{starts}
 use Rattle.scan.specs.ShapeLaws.{solid-value, starts-value, stopped-end}
 use Rattle.automaton.specs.Start.{start-none, start-some}
 use Rattle.automaton.specs.State.{State, next, start}
 use Rattle.automaton.specs.Tally.{Tally, raised, tallied, fresh}
 use Rattle.automaton.specs.Halves.{endPair, finish, waiting, begin}
-use Rattle.marks.specs.Advances.{LabelIs, by-name, by-position, Advances}
+use Rattle.marks.specs.Advances.{Advances}
 use Rattle.pairs.specs.Pairs.{tally, Begins, Raises}
 use Rattle.walk.specs.Ahead.{valueAt, ItemAhead, MoreAhead, ItemsAhead, ValueAhead}
 use Rattle.walk.specs.AheadLaws.{items-inside, no-items, first-item, item-value, value-here, value-inside as item-inside}
 use Rattle.walk.specs.AheadLaws.{value-stopped, key-solid, item-passed, more-inside, no-more, next-item}
+use Rattle.walk.specs.Labels.{label-is}
 use Rattle.walk.specs.ValueLaws.{scalar-passed, container-entered}
 use Rattle.walk.specs.Walks.{Walks}
 use Rattle.plain.specs.Plain.{RootState, EntersChild, WalksValue, WalksItems}
@@ -53,12 +54,6 @@ frame-more : (b : Bool) (k : ℕ) → frameIf b k ≤ k + 1
 unfolding frameIf
 frame-more true k = omega arith
 frame-more false k = omega arith
-
-label-is : (s : List ℕ) (o : Bool) (key : Key (kindIf o)) (j x y : ℕ) → NameAt (kindIf o) key s x y
-    → LabelIs (slice x y s) o (labelOf (kindIf o) key j)
-unfolding labelOf
-label-is s true key j x y h = rw h by-name
-label-is s false key j x y h = by-position j
 
 pub enters-child : {q : List ℕ} {c : Compiled} {s : List ℕ} {a : ℕ} {o : Bool} {st : State} {v x y m : ℕ} {p : Bool} {k : ℕ}
     → EntersItem s a o v x y → Advances q c (st .marks) (slice x y s) o m p → k ≡ frameIf (eqb (st .marks) m) (st .frames)
@@ -84,10 +79,6 @@ value-inside {s = s} {rest = rest} {a = a} v l = go (drop a s) refl
     go : (u : List ℕ) → drop a s ≡ u → ⊥
     go [] e = false≢true (ap starts (sym e ∙ v .here) ∙ starts-value (v .v) rest)
     go (b ∷ u) e = omega (arith, length-drop a s, ap length e)
-
--- a text that is not empty ends the record from one place only
-same-place : (s : List ℕ) (a b : ℕ) → a < length s → drop a s ≡ drop b s → b ≡ a
-same-place s a b h e = omega (arith, length-drop a s, length-drop b s, ap length e)
 
 -- the place of an item's value, after blanks and its key
 item-value-is : (next′ : State → Label → State) (s rest : List ℕ) (k : Kind) (st : State) (n : ℕ) (goal : Tally) (end i : ℕ) (t : Tally)

@@ -4,18 +4,15 @@ use mathlib.Core.Path.{_≡_, ap, sym, _∙_}
 use mathlib.Core.List.{List, [], _∷_, _++_, append-cancel-right}
 use mathlib.Core.Bool.{Bool, true, false}
 use Prim.Native.Nat.{ℕ, suc, _+_, _≤_, _<_}
-use native.Mathlib.Numerals.{add-one}
 use native.Mathlib.Omega.{arith}
 use lib.ListN.{length, getD, take, drop, take-append-drop, drop-of-length-le}
-use lib.Seq.{drop-cons, drop-append-le, length-take-le, slice}
+use lib.Seq.{drop-append-le, length-take-le, slice}
+use Rattle.encoding.specs.BytesLaws.{byte-at}
 use Rattle.query.specs.Machine.{Control, dead, at, step, final}
 use Rattle.query.specs.Read.{keep, event, named, Reading, good, bad, note, reading}
 use Rattle.query.specs.Spell as S
 
 -- what stands at a place
-
-pub byte-at : (q : List ℕ) (i : ℕ) → i < length q → drop i q ≡ getD q i 0 ∷ drop (i + 1) q
-byte-at q i h = rw add-one (drop-cons q i 0 h)
 
 pub byte-is : (q : List ℕ) (i : ℕ) → i < length q → {b : ℕ} → getD q i 0 ≡ b → drop i q ≡ b ∷ drop (i + 1) q
 byte-is q i h e = byte-at q i h ∙ ap (λ (x : ℕ). x ∷ drop (i + 1) q) e

@@ -11,5 +11,6 @@ pub mod Says
 pub mod Sound
 pub mod Spell
 pub mod Steps
+pub mod StepsLaws
 pub mod Text
 pub mod Verdict

@@ -6,27 +6,10 @@ use mathlib.Core.Option.{Option, some, none}
 use Prim.Native.Nat.{ℕ, _≤_, _<_}
 use native.Mathlib.Omega.{arith}
 use lib.Dec.{T, leb, ltb, leb→le, ltb→lt}
-use Rattle.bits.specs.Truth.{and-left, and-right}
+use Rattle.bits.specs.Truth.{and-left, and-right, to-T, refuted, or-elim}
 use Rattle.encoding.specs.Bytes.{In}
 use Rattle.encoding.specs.BytesLaws.{inside, from-low, to-high}
 use Rattle.query.specs.Machine.{Control, State, dead, at, Row, only, rows, takes, pick, step}
-
--- tests
-
-pub so : {b : Bool} → b ≡ true → T b
-so e = rw e tt
-
-pub of-T : (b : Bool) → T b → b ≡ true
-of-T true t = refl
-of-T false t = absurd t
-
-pub not-T : (b : Bool) → (T b → ⊥) → b ≡ false
-not-T true f = absurd (f tt)
-not-T false f = refl
-
-or-elim : (a b : Bool) {A : Type 0} → T (a || b) → (T a → A) → (T b → A) → A
-or-elim true b t f g = f t
-or-elim false b t f g = g t
 
 -- the bounds of a byte that a row has
 pub taken-between : (r : Row) (b : ℕ) → T (takes r b) → (r .low ≤ b) × (b ≤ r .high)
@@ -43,7 +26,7 @@ miss r rs b e = rw (e, pick)
 
 -- a byte that is not the row's one byte
 pub miss-only : (n : ℕ) (c : Control) (rs : List Row) (b : ℕ) → (b ≡ n → ⊥) → pick (only n c ∷ rs) b ≡ pick rs b
-miss-only n c rs b f = miss (only n c) rs b (not-T (takes (only n c) b) (λ t. f (omega (arith, taken-between (only n c) b t))))
+miss-only n c rs b f = miss (only n c) rs b (refuted (takes (only n c) b) (λ e. f (omega (arith, taken-between (only n c) b (to-T e)))))
 
 -- a row has all bytes of the range, or none
 abbrev covers : Row → ℕ → ℕ → Bool
@@ -66,10 +49,10 @@ covered {lo} {hi} {b} l h r t =
 
 passed : {lo hi b : ℕ} → lo ≤ b → b ≤ hi → (r : Row) → T (parted r lo hi) → takes r b ≡ false
 passed {lo} {hi} {b} l h r t =
-    not-T (takes r b)
+    refuted (takes r b)
     (λ q. or-elim (ltb (r .high) lo) (ltb hi (r .low)) t
-    (λ x. omega (arith, ltb→lt (r .high) lo x, taken-between r b q))
-    (λ x. omega (arith, ltb→lt hi (r .low) x, taken-between r b q)))
+    (λ x. omega (arith, ltb→lt (r .high) lo x, taken-between r b (to-T q)))
+    (λ x. omega (arith, ltb→lt hi (r .low) x, taken-between r b (to-T q))))
 
 pub lands : {lo hi b : ℕ} → lo ≤ b → b ≤ hi → (rs : List Row) (m : State) → landing lo hi rs ≡ some m → pick rs b ≡ m
 unfolding landing pick
@@ -79,8 +62,8 @@ lands {lo} {hi} {b} l h (r ∷ rs) m e = go (covers r lo hi) refl (parted r lo h
     go : (x : Bool) → covers r lo hi ≡ x → (y : Bool) → parted r lo hi ≡ y →
         elim x [ true ↦ some (at (r .to)) | false ↦ elim y [ true ↦ landing lo hi rs | false ↦ none ] ] ≡ some m →
         (landing lo hi rs ≡ some m → pick rs b ≡ m) → pick (r ∷ rs) b ≡ m
-    go true p y q f again = hit r rs b (covered l h r (so p)) ∙ cc
-    go false p true q f again = miss r rs b (passed l h r (so q)) ∙ again f
+    go true p y q f again = hit r rs b (covered l h r (to-T p)) ∙ cc
+    go false p true q f again = miss r rs b (passed l h r (to-T q)) ∙ again f
     go false p false q f again = cc
 
 -- rows that have no byte of the range are passed over
@@ -105,7 +88,7 @@ unfolding allUnder pick
 dies-above l [] t = refl
 dies-above {lo} {b} l (r ∷ rs) t =
     let h : r .high < lo = ltb→lt (r .high) lo (and-left (ltb (r .high) lo) (allUnder lo rs) t) in
-    miss r rs b (not-T (takes r b) (λ q. omega (arith, taken-between r b q))) ∙
+    miss r rs b (refuted (takes r b) (λ q. omega (arith, taken-between r b (to-T q)))) ∙
     dies-above l rs (and-right (ltb (r .high) lo) (allUnder lo rs) t)
 
 -- a step by a byte of a range, by computing

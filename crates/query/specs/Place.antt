@@ -141,19 +141,6 @@ place-le c (b ∷ s) = go (step (at c) b) (λ k. place-le k s)
     go dead again = omega arith
     go (at k) again = omega (arith, again k)
 
--- bytes after the dead one change nothing
-pub place-take : (c : Control) (n : ℕ) (s : List ℕ) → place (at c) (take n s) < n → place (at c) s ≡ place (at c) (take n s)
-unfolding place
-place-take c zero s h = absurd (omega arith)
-place-take c (suc n) [] h = refl
-place-take c (suc n) (b ∷ s) h = go (step (at c) b) h (λ k g. place-take k n s g)
-  where
-    go : (m : State) → elim m [ dead ↦ 0 | at k ↦ suc (place (at k) (take n s)) ] < suc n →
-        ((k : Control) → place (at k) (take n s) < n → place (at k) s ≡ place (at k) (take n s)) →
-        _≡_ {A = ℕ} (elim m [ dead ↦ 0 | at k ↦ suc (place (at k) s) ]) (elim m [ dead ↦ 0 | at k ↦ suc (place (at k) (take n s)) ])
-    go dead g again = refl
-    go (at k) g again = ap suc (again k (le-of-suc-le-suc g))
-
 -- the place of the dead byte (document 01, "Grounds for refusing"), for every byte string
 pub dead-place : (s : List ℕ) → DeadPlace QueryText s (place start s)
 dead-place s = record {

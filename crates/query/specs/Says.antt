@@ -1,13 +1,14 @@
 -- The verdict by computing is the one that the grounds say, and no other; the steps by computing are the tree's. Assumes nothing.
 use mathlib.Core.Path.{_≡_, refl, ap, sym, subst, _∙_}
 use mathlib.Core.List.{List, [], _∷_, _++_, map}
-use mathlib.Core.Bool.{Bool, true, false}
+use mathlib.Core.Bool.{Bool, true, false, true≢false}
 use mathlib.Core.Logic.{_↔_}
 use Prim.Native.Nat.{ℕ, zero, suc, _+_, _≤_, _<_}
 use native.Mathlib.Nat.{le-of-suc-le-suc}
 use native.Mathlib.Omega.{arith}
-use lib.Dec.{T, leb, leb→le, le→leb, nleb→lt}
+use lib.Dec.{leb}
 use lib.ListN.{length, length-append}
+use borrow.Author.Tests.{leb-true, leb-false, le-leb, lt-leb}
 use Rattle.encoding.specs.BytesLaws.{size}
 use Rattle.encoding.specs.Prefix.{DeadPlace}
 use Rattle.encoding.specs.PrefixLaws.{dead-place-unique}
@@ -18,7 +19,6 @@ use Rattle.query.specs.Steps.{Step}
 use Rattle.query.specs.Machine.{root}
 use Rattle.query.specs.Read.{Placed, named, Reading, good, reading, stepsRead}
 use Rattle.query.specs.Append.{append-spaced}
-use Rattle.query.specs.MachineLaws.{of-T, not-T, so}
 use Rattle.query.specs.Text.{placed, reads-text}
 use Rattle.query.specs.Sound.{sound}
 use Rattle.query.specs.Place.{Tells, well, ill, tells, accepts-text, dead-place}
@@ -80,8 +80,8 @@ says-counted s t l e = go (leb (length (placed 1 t)) maxSteps) refl
 
     go : (b : Bool) → leb (length (placed 1 t)) maxSteps ≡ b → QuerySays s
         (elim b [ true ↦ Verdict.taken | false ↦ refused 3 (placeOf maxSteps (placed 1 t)) ])
-    go true f = taken l t e (omega (arith, leb→le (length (placed 1 t)) maxSteps (so f), length-placed t 1))
-    go false f = more t e (split-at t maxSteps (omega (arith, nleb→lt (length (placed 1 t)) maxSteps (rw f tt), length-placed t 1)))
+    go true f = taken l t e (omega (arith, leb-true (length (placed 1 t)) maxSteps f, length-placed t 1))
+    go false f = more t e (split-at t maxSteps (omega (arith, leb-false (length (placed 1 t)) maxSteps f, length-placed t 1)))
 
 says-judged : (s : List ℕ) (r : Reading) → length s ≤ maxQueryBytes → reading root 0 s ≡ r → Tells root 0 s r → QuerySays s (judged r)
 unfolding judged
@@ -91,7 +91,7 @@ says-judged s r l e (well a f) =
     let y : placed 1 (x .tree) ≡ a .later = ap stepsRead z in
     subst (λ (k : List Placed). QuerySays s (counted k)) y (says-counted s (x .tree) l (x .written))
 says-judged s r l e (ill p f g) =
-    wrong l (λ x. subst T (sym (accepts-text s x) ∙ f) tt) p (subst (DeadPlace QueryText s) (sym (g ∙ omega arith)) (dead-place s))
+    wrong l (λ x. true≢false (sym (accepts-text s x) ∙ f)) p (subst (DeadPlace QueryText s) (sym (g ∙ omega arith)) (dead-place s))
 
 -- a query's verdict by computing is what the grounds say
 pub querySays : (s : List ℕ) → QuerySays s (queryVerdict s)
@@ -99,17 +99,17 @@ unfolding queryVerdict
 querySays s = go (leb (length s) maxQueryBytes) refl
   where
     go : (b : Bool) → leb (length s) maxQueryBytes ≡ b → QuerySays s (elim b [ true ↦ judged (reading root 0 s) | false ↦ refused 1 maxQueryBytes ])
-    go true f = says-judged s (reading root 0 s) (leb→le (length s) maxQueryBytes (so f)) refl (tells root 0 s)
-    go false f = long (nleb→lt (length s) maxQueryBytes (rw f tt))
+    go true f = says-judged s (reading root 0 s) (leb-true (length s) maxQueryBytes f) refl (tells root 0 s)
+    go false f = long (leb-false (length s) maxQueryBytes f)
 
 -- the verdict of a query that is not too long
 pub short-enough : (s : List ℕ) → length s ≤ maxQueryBytes → queryVerdict s ≡ judged (reading root 0 s)
 unfolding queryVerdict
-short-enough s l = rw (of-T (leb (length s) maxQueryBytes) (le→leb _ _ l), queryVerdict)
+short-enough s l = rw (le-leb (length s) maxQueryBytes l, queryVerdict)
 
 pub too-long : (s : List ℕ) → maxQueryBytes < length s → queryVerdict s ≡ refused 1 maxQueryBytes
 unfolding queryVerdict
-too-long s h = rw (not-T (leb (length s) maxQueryBytes) (λ x. omega (arith, leb→le (length s) maxQueryBytes x)), queryVerdict)
+too-long s h = rw (lt-leb (length s) maxQueryBytes h, queryVerdict)
 
 verdict-text : (s : List ℕ) (t : Query) → length s ≤ maxQueryBytes → text t ≡ s → queryVerdict s ≡ counted (placed 1 t)
 unfolding judged
@@ -117,11 +117,11 @@ verdict-text s t l e = short-enough s l ∙ ap (λ (u : List ℕ). judged (readi
 
 pub few : (l : List Placed) → length l ≤ maxSteps → counted l ≡ Verdict.taken
 unfolding counted
-few l h = rw (of-T (leb (length l) maxSteps) (le→leb _ _ h), counted)
+few l h = rw (le-leb (length l) maxSteps h, counted)
 
 pub too-many : (l : List Placed) → maxSteps < length l → counted l ≡ refused 3 (placeOf maxSteps l)
 unfolding counted
-too-many l h = rw (not-T (leb (length l) maxSteps) (λ x. omega (arith, leb→le (length l) maxSteps x)), counted)
+too-many l h = rw (lt-leb (length l) maxSteps h, counted)
 
 wrong-only : (s : List ℕ) (p : ℕ) (r : Reading) → (QueryText s → ⊥) → DeadPlace QueryText s p → Tells root 0 s r → refused 2 p ≡ judged r
 unfolding judged

@@ -5,6 +5,7 @@ use mathlib.Core.List.{List, [], _∷_}
 use mathlib.Core.Bool.{Bool, true, false}
 use Prim.Native.Nat.{ℕ, zero, suc}
 use native.Mathlib.Omega.{arith}
+use Rattle.bits.specs.Truth.{to-T}
 use Rattle.encoding.specs.Bytes as B
 use Rattle.encoding.specs.Bytes.{In, Blank, Blanks, blankByte, putBlanks}
 use Rattle.encoding.specs.BytesLaws.{from-low, to-high, Then, then}
@@ -19,7 +20,6 @@ use Rattle.query.specs.Machine.{Home, short, quoted, Control, root, done
 use Rattle.query.specs.Machine.{inside, tailDue, State, dead, at}
 use Rattle.query.specs.Machine.{Row, range, only, wideRows, letterRows, firstRows, stepRows, beginRows, dotRows, innerRows, charRows}
 use Rattle.query.specs.Machine.{rows, takes, pick, step, run, final, accept, start}
-use Rattle.query.specs.MachineLaws.{so}
 
 -- what completes a query, by where the machine is
 
@@ -81,7 +81,7 @@ back-pick L [] b s f x = absurd x
 back-pick L (r ∷ rs) b s f x = go (takes r b) refl x (λ y. back-pick L rs b s (f .1) y)
   where
     go : (t : Bool) → takes r b ≡ t → RestOf (elim t [ true ↦ at (r .to) | false ↦ pick rs b ]) s → (RestOf (pick rs b) s → L (b ∷ s)) → L (b ∷ s)
-    go true e y again = f .0 (record { byte = b; ok = so e }) s y
+    go true e y again = f .0 (record { byte = b; ok = to-T e }) s y
     go false e y again = again y
 
 -- a table that leads back to less
@@ -264,19 +264,19 @@ unfolding putQuery
 over = steps []
 
 rest-nil : (c : Control) → final c ≡ true → Rest c []
-rest-nil root e = absurd (so e)
+rest-nil root e = absurd (to-T e)
 rest-nil done e = over
-rest-nil gap e = absurd (so e)
-rest-nil (M.dotted d) e = absurd (so e)
-rest-nil opened e = absurd (so e)
-rest-nil closing e = absurd (so e)
+rest-nil gap e = absurd (to-T e)
+rest-nil (M.dotted d) e = absurd (to-T e)
+rest-nil opened e = absurd (to-T e)
+rest-nil closing e = absurd (to-T e)
 rest-nil (inside short) e = done-shorthand [] over
-rest-nil (inside (quoted q)) e = absurd (so e)
-rest-nil (tailDue p n h) e = absurd (so e)
+rest-nil (inside (quoted q)) e = absurd (to-T e)
+rest-nil (tailDue p n h) e = absurd (to-T e)
 
 rest : (st : State) (s : List ℕ) → accept (run st s) ≡ true → RestOf st s
 unfolding run
-rest dead [] e = absurd (so e)
+rest dead [] e = absurd (to-T e)
 rest (at c) [] e = rest-nil c e
 rest st (b ∷ s) e = back-step st b s (rest (step st b) s e)
 

@@ -6,6 +6,7 @@ use mathlib.Core.Option.{some}
 use Prim.Native.Nat.{ℕ, suc, _+_}
 use native.Mathlib.Omega.{arith}
 use lib.ListN.{length, length-append}
+use Rattle.bits.specs.Truth.{of-T}
 use Rattle.encoding.specs.Bytes as B
 use Rattle.encoding.specs.Bytes.{In, Blank, Blanks, blankByte, putBlanks}
 use Rattle.encoding.specs.Utf8 as U
@@ -19,7 +20,7 @@ use Rattle.query.specs.Machine.{Control, root, done, gap, opened, closin
 use Rattle.query.specs.Machine.{wideRows, firstRows, tailsDue, step}
 use Rattle.query.specs.Read as R
 use Rattle.query.specs.Read.{Event, keep, begin, letter, isDotted, isOpened, event, Placed, named, Reading, good, bad, note, reading}
-use Rattle.query.specs.MachineLaws.{of-T, hit, landing, leads-in}
+use Rattle.query.specs.MachineLaws.{hit, landing, leads-in}
 use Rattle.query.specs.Append.{append-later, append-char}
 
 -- one byte

@@ -5,10 +5,10 @@ use mathlib.Core.Bool.{Bool, true, false}
 use Prim.Native.Nat.{ℕ, _+_, _≤_, _<_}
 use native.Mathlib.Omega.{arith}
 use lib.ListN.{length, getD, drop}
+use Rattle.encoding.specs.BytesLaws.{byte-at}
 use Rattle.encoding.specs.Bytes as B
 use Rattle.encoding.specs.Bytes.{Blank, Blanks, blankByte, putBlanks}
 use Rattle.query.specs.Append.{blanks-more}
-use Rattle.query.specs.At.{byte-at}
 use Rattle.query_lexer.specs.Scans.{BlankIs, blank, Skipped}
 
 pub not-blank : {b : ℕ} → (b ≡ 0x20 → ⊥) → (b ≡ 0x09 → ⊥) → (b ≡ 0x0A → ⊥) → (b ≡ 0x0D → ⊥) → (x : Blank) → b ≡ blankByte x → ⊥

@@ -3,13 +3,14 @@
 -- Assumes nothing.
 use mathlib.Core.Path.{_≡_, refl, ap, sym, subst, _∙_}
 use mathlib.Core.List.{List, [], _∷_, _++_}
-use mathlib.Core.Bool.{Bool, true, false}
+use mathlib.Core.Bool.{Bool, true, false, false≢true, true≢false}
 use Prim.Native.Nat.{ℕ, _+_, _≤_, _<_}
 use native.Mathlib.Omega.{arith}
 use lib.Dec.{T, leb}
 use borrow.Author.Tests.{leb-true, leb-false}
 use lib.ListN.{length, getD, drop, drop-of-length-le}
 use lib.Seq.{slice, getD-drop}
+use Rattle.encoding.specs.BytesLaws.{byte-at}
 use Rattle.encoding.specs.BytesLaws as L
 use Rattle.encoding.specs.CodePoint as C
 use Rattle.encoding.specs.CodePoint.{Scanned}
@@ -22,7 +23,7 @@ use Rattle.query.specs.Machine.{Control, done, inside, short, quoted, dead, Row
 use Rattle.query.specs.Read.{reading}
 use Rattle.query.specs.Spell.{spell, spells-chars, alike}
 use Rattle.query.specs.Text.{spells-shorthand}
-use Rattle.query.specs.At.{byte-at, end-at, stop-at}
+use Rattle.query.specs.At.{end-at, stop-at}
 use Rattle.query.specs.MachineLaws.{miss, miss-only, landing, leads, allParted, passes}
 use Rattle.query_lexer.specs.Scans.{NameByteIs, digit, upper, underscore, lower, below-digits, below-upper, between-cases, above-lower}
 use Rattle.query_lexer.specs.Scans.{spelt, NoName, Moved, NameChar, FirstChar, ShortName, QuotedChar, QuotedName}
@@ -89,7 +90,7 @@ module _ (q : List ℕ) (i : ℕ) (h : i < length q) where
   went-on = record { within = omega arith; on = λ e. omega arith }
 
   stayed : Moved q i false i
-  stayed = record { within = omega arith; on = λ e. let z : _≡_ {A = ℕ} 0 1 = cc in absurd (omega arith) }
+  stayed = record { within = omega arith; on = λ e. absurd (false≢true e) }
 
   scanned-moves : {ok : Bool} {r : ℕ} → Scanned C.decoding q i ok r → Moved q i ok r
   scanned-moves s = record { within = scanned-within s (omega arith); on = λ e. scanned-moved (reads-at s) e }
@@ -111,9 +112,9 @@ module _ (q : List ℕ) (i : ℕ) (h : i < length q) where
       record {
         moved = went-on;
         stands = λ z. (c, t ∙ sym (byte-at q i h));
-        no-first = λ z. let w : _≡_ {A = ℕ} 0 1 = cc in absurd (omega arith);
-        dead = λ z. let w : _≡_ {A = ℕ} 0 1 = cc in absurd (omega arith);
-        over = λ z. let w : _≡_ {A = ℕ} 0 1 = cc in absurd (omega arith);
+        no-first = λ z. absurd (true≢false z);
+        dead = λ z. absurd (true≢false z);
+        over = λ z. absurd (true≢false z);
       }
 
   pub name-off : {x : Bool} → NameByteIs (getD q i 0) x → x ≡ false → getD q i 0 < 0x80 → NameChar q i false i
@@ -121,7 +122,7 @@ module _ (q : List ℕ) (i : ℕ) (h : i < length q) where
       let y = subst (NameByteIs (getD q i 0)) e x in
       record {
         moved = stayed;
-        stands = λ z. let w : _≡_ {A = ℕ} 0 1 = cc in absurd (omega arith);
+        stands = λ z. absurd (false≢true z);
         no-first = λ z d n f. stop-at (M.dotted d) q i h (no-name d y w n);
         dead = λ z g. absurd (omega arith);
         over = λ z g. same-done (name-over y w);
@@ -137,7 +138,7 @@ module _ (q : List ℕ) (i : ℕ) (h : i < length q) where
   pub no-first-digit : 0x30 ≤ getD q i 0 → getD q i 0 ≤ 0x39 → FirstChar q i false i
   no-first-digit l u = record {
     moved = stayed;
-    stands = λ z. let w : _≡_ {A = ℕ} 0 1 = cc in absurd (omega arith);
+    stands = λ z. absurd (false≢true z);
     dead = λ z d n. stop-at (M.dotted d) q i h (digit-dies d l u);
   }
 

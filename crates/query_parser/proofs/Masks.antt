@@ -13,6 +13,7 @@ use Rattle.bits.specs.Bits.{bit}
 use Rattle.query_steps.specs.declared.Found.{Found}
 use Rattle.query_parser.specs.declared.compiled.Compiled.{Compiled}
 use Rattle.query.specs.Steps.{Step, isDeep}
+use Rattle.query.specs.StepsLaws.{no-step}
 use Rattle.query.specs.Read.{nameBytes}
 use Rattle.query.specs.Verdict.{maxSteps}
 use Rattle.query_steps.specs.Reader.{selectorAt, placedAt, Bounded}
@@ -31,11 +32,6 @@ module _ (s : Step) where
   elem-other [] (suc i) f = refl
   elem-other (y ∷ x) zero f = refl
   elem-other (y ∷ x) (suc i) f = elem-other x i (λ e. f (ap suc e))
-
-elem-none : (x : List Step) (i : ℕ) → length x ≤ i → getElem? x i ≡ none
-elem-none [] i h = refl
-elem-none (y ∷ x) zero h = absurd (omega arith)
-elem-none (y ∷ x) (suc i) h = elem-none x i (omega arith)
 
 or-and : (a b : Bool) → a ≡ false → (a || (b && true)) ≡ b
 or-and true b e = absurd (subst T e tt)
@@ -56,7 +52,7 @@ module _ (x : List Step) (s : Step) (n : ℕ) (e : n ≡ length x) where
       go : (b : Bool) → eqb i n ≡ b → bit i r ≡ g (getElem? (x ++ s ∷ []) i)
       go true f =
           let k : i ≡ n = eqb-true i n f in
-          new i ∙ ap (λ (b : Bool). bit i m || (v && b)) f ∙ or-and (bit i m) v (old i ∙ ap g (elem-none x i (omega arith)) ∙ z) ∙ w ∙
+          new i ∙ ap (λ (b : Bool). bit i m || (v && b)) f ∙ or-and (bit i m) v (old i ∙ ap g (no-step x i (omega arith)) ∙ z) ∙ w ∙
           sym (ap g (elem-last s x i (k ∙ e)))
       go false f =
           new i ∙ ap (λ (b : Bool). bit i m || (v && b)) f ∙ or-not (bit i m) v ∙ old i ∙

@@ -8,6 +8,7 @@ use native.Mathlib.Omega.{arith}
 use lib.Dec.{T}
 use lib.ListN.{length, getD, drop}
 use lib.Seq.{slice}
+use Rattle.encoding.specs.BytesLaws.{byte-at}
 use Rattle.encoding.specs.Bytes as B
 use Rattle.encoding.specs.Bytes.{Blanks, putBlanks}
 use Rattle.encoding.specs.Prefix.{DeadPlace}
@@ -27,7 +28,7 @@ use Rattle.query.specs.MachineLaws.{miss-only}
 use Rattle.query.specs.Spell.{spell, spell-named, spell-bad, done-gap, blank-gap, blank-opened, blank-closing}
 use Rattle.query.specs.Text.{shorthand-append, quote-opens, quote-closes}
 use Rattle.query.specs.Ended.{Ended, clean, cut, ended}
-use Rattle.query.specs.At.{byte-at, byte-is, written-slice, end-at, stop-at, turn-at, kept-at}
+use Rattle.query.specs.At.{byte-is, written-slice, end-at, stop-at, turn-at, kept-at}
 use Rattle.query.specs.Append.{append-chars, append-spaced}
 use Rattle.query.specs.Place.{Tells, well, ill, tells, accepts-text, dead-place}
 use Rattle.query_lexer.specs.Scans.{BlankIs, other, Skipped, spelt, deeperByte, ShortName, QuotedName}

@@ -12,10 +12,6 @@ use Rattle.json.specs.Room.{Room}
 use Rattle.json.specs.Machine.{Ctl, Stack, top, at, Rule, one, lowest, highest, rules, step}
 use Rattle.json.specs.MachineLaws.{Picks, inside, past, nowhere, step-by}
 
--- what is refused is not taken
-pub never : {A : Type 0} → false ≡ true → A
-never e = let z : _≡_ {A = ℕ} 0 1 = cc in absurd (omega arith)
-
 -- whether b is among the bytes
 pub data Among : List ℕ → ℕ → Bool → Type 0 where
   this : {b n : ℕ} {ns : List ℕ} → b ≡ n → Among (n ∷ ns) b true

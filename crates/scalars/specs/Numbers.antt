@@ -1,7 +1,7 @@
 -- Numbers (RFC 8259 §6) as the record grammar's machine takes them.
 use mathlib.Core.Path.{_≡_, refl, sym, _∙_}
 use mathlib.Core.List.{List, [], _∷_, _++_, append-assoc}
-use mathlib.Core.Bool.{Bool, true, false, not}
+use mathlib.Core.Bool.{Bool, true, false, not, false≢true, true≢false}
 use mathlib.Core.Logic.{_⊎_, inl, inr}
 use mathlib.Core.Option.{Option, some, none}
 use Prim.Native.Nat.{ℕ, _+_, _≤_, _<_}
@@ -18,7 +18,7 @@ use Rattle.json.specs.Grammar.{Kind}
 use Rattle.json.specs.Room.{Room, endless}
 use Rattle.json.specs.Machine.{Ctl, after, afterMinus, afterZero, inInt, afterPoint, inFrac, afterE, afterSign, inExp, Stack, top, at, dead, Rule, one, span, afterRules, rules, step, final}
 use Rattle.json.specs.MachineLaws.{Picks, inside, past, nowhere, landing, step-range, step-by, step-over}
-use Rattle.scalars.specs.Among.{never, Among, this, other, no-more, AmongAt, byte, nothing, missed, each, among-picks, among-past, among-within}
+use Rattle.scalars.specs.Among.{Among, this, other, no-more, AmongAt, byte, nothing, missed, each, among-picks, among-past, among-within}
 use Rattle.json.specs.Led.{Led, led-here, led-go, led-die, led-end, led-over, led-same, led-skip, led-on}
 
 -- a byte that is none
@@ -48,7 +48,7 @@ module _ (b : ℕ) where
   is-digit e = by (digit-or-not b)
     where
       by : NoDigit b ⊎ ((0x30 ≤ b) × (b ≤ 0x39)) → (0x30 ≤ b) × (b ≤ 0x39)
-      by (inl n) = let z : true ≡ false = sym e ∙ digit-fails n in let y : _≡_ {A = ℕ} 0 1 = cc in absurd (omega arith)
+      by (inl n) = absurd (true≢false (sym e ∙ digit-fails n))
       by (inr d) = d
 
   pub not-digit : digit b ≡ false → NoDigit b
@@ -56,7 +56,7 @@ module _ (b : ℕ) where
     where
       by : NoDigit b ⊎ ((0x30 ≤ b) × (b ≤ 0x39)) → NoDigit b
       by (inl n) = n
-      by (inr d) = let z : true ≡ false = sym (digit-holds (d .0) (d .1)) ∙ e in let y : _≡_ {A = ℕ} 0 1 = cc in absurd (omega arith)
+      by (inr d) = absurd (true≢false (sym (digit-holds (d .0) (d .1)) ∙ e))
 
 -- whether a digit stands at place i
 pub record DigitAt (s : List ℕ) (i : ℕ) (r : Bool) : Type 0 where
@@ -304,7 +304,7 @@ point-step e int k ρ = rw e refl
 module _ {s : List ℕ} {i : ℕ} (l : i ≤ length s) {q : Bool} (x : AmongAt (0x2E ∷ []) s i q) where
   -- no point stands there
   pub fraction-none : q ≡ false → Fraction s i true i
-  fraction-none e = record { forward = omega arith; within = l; refused = λ z. never (sym z); ended = λ z. by (rw e at x) }
+  fraction-none e = record { forward = omega arith; within = l; refused = λ z. absurd (false≢true (sym z)); ended = λ z. by (rw e at x) }
     where
       unpicked : AmongAt (0x2E ∷ []) s i false → i < length s → Picks toPoint (getD s i 0) none
       unpicked (byte h (other n no-more)) k = past (missed n) nowhere
@@ -326,14 +326,14 @@ module _ {s : List ℕ} {i : ℕ} (l : i ≤ length s) {q : Bool} (x : AmongAt (
 
     module _ {r : ℕ} (g : Run digit s (i + 1) r) where
       pub fraction-empty : r ≡ i + 1 → Fraction s i false (i + 1)
-      fraction-empty z = record { forward = omega arith; within = point-within; refused = λ n. by; ended = λ n. never n }
+      fraction-empty z = record { forward = omega arith; within = point-within; refused = λ n. by; ended = λ n. absurd (false≢true n) }
         where
           by : {a : ℕ} {c : Ctl} → WholeAt s a c i → Led s a c after false (i + 1)
           by (whole w p u) = digits-none point (point-led w p) g after z
 
       pub fraction-some : (r ≡ i + 1 → ⊥) → Fraction s i true r
       fraction-some z =
-          record { forward = omega (arith, g .passed .forward); within = g .passed .within; refused = λ n. never (sym n); ended = λ n. by }
+          record { forward = omega (arith, g .passed .forward); within = g .passed .within; refused = λ n. absurd (false≢true (sym n)); ended = λ n. by }
         where
           by : {a : ℕ} {c : Ctl} → WholeAt s a c i → EndAt s a c r
           by (whole w p u) = digits frac (digits-some point (point-led w p) g z) (λ h. unpicked-digit inFrac (not-digit _ (g .stop h)))
@@ -395,11 +395,11 @@ module _ {s : List ℕ} {i : ℕ} where
 -- the parts of a number, one after the other
 module _ {s : List ℕ} {i w : ℕ} (p : WholePart s i w) where
   pub number-none : w ≡ i → Number s i false i
-  number-none e = record { moved = never; led = p .none e }
+  number-none e = record { moved = λ e. absurd (false≢true e); led = p .none e }
 
   module _ (n : w ≡ i → ⊥) {ok : Bool} {f : ℕ} (q : Fraction s w ok f) where
     pub number-wrong : ok ≡ false → Number s i false f
-    number-wrong e = record { moved = never; led = q .refused e (p .some n) }
+    number-wrong e = record { moved = λ e. absurd (false≢true e); led = q .refused e (p .some n) }
 
     pub number-some : ok ≡ true → {ok′ : Bool} {r : ℕ} → Exponent s f ok′ r → Number s i ok′ r
     number-some e x =

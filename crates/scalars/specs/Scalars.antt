@@ -1,7 +1,7 @@
 -- Numbers and literal names (RFC 8259 §3) where a value is due.
 use mathlib.Core.Path.{_≡_, refl, sym, _∙_}
 use mathlib.Core.List.{List, [], _∷_}
-use mathlib.Core.Bool.{Bool, true, false}
+use mathlib.Core.Bool.{Bool, true, false, false≢true}
 use mathlib.Core.Logic.{_⊎_, inl, inr}
 use mathlib.Core.Option.{none}
 use Prim.Native.Nat.{ℕ, _+_, _≤_, _<_}
@@ -15,7 +15,7 @@ use Rattle.json.specs.Room.{Room, endless}
 use Rattle.json.specs.Machine.{Ctl, valueDue, after, inString, wordDue, afterMinus, afterZero, inInt, Stack, at, one, opens, rules, step}
 use Rattle.json.specs.MachineLaws.{Picks, past, nowhere, landing, step-range, step-by}
 use Rattle.json.specs.Led.{Led, led-here, led-go, led-die, led-same, led-on}
-use Rattle.scalars.specs.Among.{never, missed}
+use Rattle.scalars.specs.Among.{missed}
 use Rattle.scalars.specs.Blanks.{past-blanks}
 use Rattle.scalars.specs.Numbers.{NoDigit, over, digit-or-not, no-nonzero, no-zero, Number}
 
@@ -97,7 +97,7 @@ module _ {s : List ℕ} {i : ℕ} (h : i < length s) where
       Bare (getD s i 0) → 0x39 < getD s i 0 → (getD s i 0 ≡ 0x74 → ⊥) → (getD s i 0 ≡ 0x6E → ⊥) → (getD s i 0 ≡ 0x66 → ⊥) → Scalar s i false i
   word-wrong w l t n f =
       record {
-        moved = never;
+        moved = λ e. absurd (false≢true e);
         led = led-die value-here after h (λ k. step-by valueDue k endless {o = none} (nothing-begins w (over l) (λ e. omega arith) f n t));
       }
 

@@ -23,6 +23,10 @@ head-of s a b u e =
     let z : getD s a 0 ∷ drop (suc a) s ≡ b ∷ u = sym (drop-cons s a 0 h) ∙ e in
     record { inside = h; byte-is = cc; rest-is = cc }
 
+-- a text that is not empty ends the record from one place only
+pub same-place : (s : List ℕ) (a b : ℕ) → a < length s → drop a s ≡ drop b s → b ≡ a
+same-place s a b h e = omega (arith, length-drop a s, length-drop b s, ap length e)
+
 pub past : (s : List ℕ) (a : ℕ) (xs u : List ℕ) → drop a s ≡ xs ++ u → drop (a + length xs) s ≡ u
 past s a xs u e = sym (drop-drop (length xs) a s) ∙ ap (drop (length xs)) e ∙ drop-append-seam xs u
 

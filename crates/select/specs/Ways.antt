@@ -2,24 +2,19 @@
 use mathlib.Core.List.{List, [], _∷_, reverse}
 use mathlib.Core.Bool.{Bool, true, false, _&&_, _||_, Bool·beq}
 use Prim.Native.Nat.{ℕ, zero, suc, _+_, max}
-use lib.Dec.{eqb, ltb}
+use lib.Dec.{ltb}
 use lib.ListN.{length, take, getElem?}
+use Rattle.encoding.specs.Bytes.{sameBytes}
 use Rattle.json.specs.Grammar.{Value, literal, number, string, container, Tree}
 use Rattle.query.specs.Steps.{Selector, name, every, Step, isDeep}
 use Rattle.select.specs.Nodes.{Label, member, element, Node, endOf}
 use Rattle.select.specs.Visits.{Visit, Way, nodes}
 
--- names are equal byte for byte (document 01: "Names are compared byte for byte as written between their quotes")
-unfoldable pub sameName : List ℕ → List ℕ → Bool
-sameName [] [] = true
-sameName [] (y ∷ ys) = false
-sameName (x ∷ xs) [] = false
-sameName (x ∷ xs) (y ∷ ys) = eqb x y && sameName xs ys
-
+-- a selector takes the child with this label (document 01: "Names are compared byte for byte as written between their quotes")
 unfoldable pub hits : Selector → Label → Bool
-unfolding sameName
+unfolding sameBytes
 hits every l = true
-hits (name k) (member k′) = sameName k k′
+hits (name k) (member k′) = sameBytes k k′
 hits (name k) (element j) = false
 
 -- f holds of the node at the way w, or, where the step is deep, of it or of some node above it

@@ -1,7 +1,7 @@
 -- A container that was just opened: where nothing closes it, its first item is due as any other.
 use mathlib.Core.Path.{_≡_, refl, ap, sym, _∙_}
 use mathlib.Core.List.{List, [], _∷_, _++_}
-use mathlib.Core.Bool.{Bool, true, false}
+use mathlib.Core.Bool.{true, false}
 use Prim.Native.Nat.{ℕ, _≤_, _<_}
 use lib.ListN.{length, getD}
 use Rattle.encoding.specs.Bytes.{Blank, space, tab, feed, return, blankByte}
@@ -9,21 +9,14 @@ use Rattle.swar.specs.Kinds.{blank}
 use Rattle.swar.specs.KindLaws.{not-blank}
 use Rattle.json.specs.Grammar.{Kind, array, object, closing}
 use Rattle.json.specs.Room.{Room}
-use Rattle.json.specs.Machine.{Ctl, item, inString, wordDue, afterMinus, afterZero, inInt, Stack, State, at, Rule, one, span, opens, closes, lowest, highest, takes, apply, blankRules, pick, step}
-use Rattle.json.specs.MachineLaws.{pick-later, takes-between}
+use Rattle.json.specs.Machine.{Ctl, item, inString, wordDue, afterMinus, afterZero, inInt, Stack, State, at, Rule, one, span, opens, closes, takes, apply, blankRules, pick, step}
+use Rattle.json.specs.MachineLaws.{pick-later, apart-takes}
 use Rattle.json.specs.Led.{Led, led-here, led-over, led-same}
 use Rattle.scalars.specs.Among.{AmongAt, byte, nothing, other, no-more, missed}
 
-untaken : (r : Rule) (b : ℕ) → (lowest r ≤ b → b ≤ highest r → ⊥) → takes r b ≡ false
-untaken r b n = by (takes r b) refl
-  where
-    by : (x : Bool) → takes r b ≡ x → takes r b ≡ false
-    by true e = let w = takes-between r b e in absurd (n (w .0) (w .1))
-    by false e = e
-
 module _ (b : ℕ) (k : Stack) (ρ : Room) where
   one-past : (n : ℕ) (c : Ctl) (rs : List Rule) → (b ≡ n → ⊥) → pick (one n c ∷ rs) b k ρ ≡ pick rs b k ρ
-  one-past n c rs f = pick-later (one n c) rs b k ρ (untaken (one n c) b (missed f))
+  one-past n c rs f = pick-later (one n c) rs b k ρ (apart-takes (one n c) b (missed f))
 
   blanks-past : (c : Ctl) (rs : List Rule) → blank b ≡ false → pick (blankRules c rs) b k ρ ≡ pick rs b k ρ
   blanks-past c rs e =
@@ -41,7 +34,7 @@ module _ (b : ℕ) (k : Stack) (ρ : Room) where
   same-after r rs qs e = ap (λ (st : State). elim (takes r b) as (λ _. State) [ true ↦ apply r k ρ | false ↦ st ]) e
 
   end-past : (x : Kind) (rs : List Rule) → (b ≡ closing x → ⊥) → pick (rs ++ closes x ∷ []) b k ρ ≡ pick rs b k ρ
-  end-past x [] n = pick-later (closes x) [] b k ρ (untaken (closes x) b (missed n))
+  end-past x [] n = pick-later (closes x) [] b k ρ (apart-takes (closes x) b (missed n))
   end-past x (r ∷ rs) n = same-after r (rs ++ closes x ∷ []) rs (end-past x rs n)
 
 -- the rules of an item, but for the first of an array's, for blanks and for the closing bracket

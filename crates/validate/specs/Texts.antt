@@ -1,7 +1,7 @@
 -- Strings as values and as names with their colons (RFC 8259 §4), turn by turn.
 use mathlib.Core.Path.{_≡_, refl, ap}
 use mathlib.Core.List.{List, [], _∷_}
-use mathlib.Core.Bool.{Bool, true, false}
+use mathlib.Core.Bool.{Bool, true, false, false≢true}
 use mathlib.Core.Option.{none}
 use Prim.Native.Nat.{ℕ, zero, suc, _+_, _<_}
 use native.Mathlib.Omega.{arith}
@@ -12,7 +12,7 @@ use Rattle.json.specs.Room.{Room, endless}
 use Rattle.json.specs.Machine.{item, colon, after, inString, closed, valueDue, Stack, at, one, step}
 use Rattle.json.specs.MachineLaws.{past, nowhere, step-by}
 use Rattle.json.specs.Led.{Led, led-here, led-go, led-die, led-end, led-on, led-dead}
-use Rattle.scalars.specs.Among.{never, other, no-more, AmongAt, byte, nothing, missed, among-within, among-byte}
+use Rattle.scalars.specs.Among.{other, no-more, AmongAt, byte, nothing, missed, among-within, among-byte}
 use Rattle.scalars.specs.Blanks.{past-blanks}
 use Rattle.validate.specs.Turns.{dueOf, standing, Ready, Turned, TurnTo, led-turn}
 
@@ -50,7 +50,7 @@ module _ {s : List ℕ} {i to : ℕ} (p : Led s i colon colon true to) {b : Bool
 pub name-missing :
     {s kinds : List ℕ} {depth i : ℕ} → Ready s kinds depth i → (getD s i 0 ≡ 0x22 → ⊥) → {due g r′ d′ due′ : ℕ} → due ≡ 1 →
     TurnTo false i depth due g r′ d′ due′ → Turned (standing s due kinds depth i) s i kinds g r′ d′ due′
-name-missing {s} {i = i} q n {due} e t = led-turn q due (rw e none-here) never (omega arith) t
+name-missing {s} {i = i} q n {due} e t = led-turn q due (rw e none-here) (λ e. absurd (false≢true e)) (omega arith) t
   where
     none-here : Led s i (item object false) (item object false) false i
     none-here =
@@ -65,7 +65,7 @@ module _ {s : List ℕ} {i due : ℕ} (h : i < length s) (e : getD s i 0 ≡ 0x2
   module _ {ok : Bool} {end : ℕ} (p : (f : Bool) → Led s (i + 1) (inString f) (closed f) ok end) where
     pub text-wrong : ok ≡ false → {depth g r′ d′ due′ : ℕ} → TurnTo false end depth 2 g r′ d′ due′ → Texted s i depth due g r′ d′ due′
     text-wrong z t =
-        record { turned = λ kinds q. led-turn q due (led-on quoted (led-dead after (rw z at (p (naming due))))) never (omega arith) t }
+        record { turned = λ kinds q. led-turn q due (led-on quoted (led-dead after (rw z at (p (naming due))))) (λ e. absurd (false≢true e)) (omega arith) t }
 
     module _ (y : ok ≡ true) where
       pub text-value : due ≡ 0 → {depth g r′ d′ due′ : ℕ} → TurnTo true end depth 2 g r′ d′ due′ → Texted s i depth due g r′ d′ due′

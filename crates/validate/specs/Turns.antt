@@ -1,7 +1,7 @@
 -- What one turn of the check does to the verdict: it reads what is due, up to what is due next.
 use mathlib.Core.Path.{_≡_, refl, ap, ap₂, sym, _∙_}
 use mathlib.Core.List.{List, [], _∷_}
-use mathlib.Core.Bool.{Bool, true, false}
+use mathlib.Core.Bool.{Bool, true, false, false≢true}
 use mathlib.Core.Option.{none}
 use Prim.Native.Nat.{ℕ, zero, suc, _+_, _-_, _≤_, _<_}
 use native.Mathlib.Omega.{arith}
@@ -16,7 +16,7 @@ use Rattle.json.specs.MachineLaws.{past, nowhere, step-by, item-close, after-co
 use Rattle.json.specs.CheckLaws.{here, go-at, die-at, deep-at, enter-at}
 use Rattle.json.specs.Led.{Led, outcome, led-here}
 use Rattle.json.specs.Verdict.{maxDepth}
-use Rattle.scalars.specs.Among.{never, AmongAt, among-within, among-byte, missed}
+use Rattle.scalars.specs.Among.{AmongAt, among-within, among-byte, missed}
 use Rattle.scalars.specs.Blanks.{at-item, led-blanks, past-blanks}
 use Rattle.validate.specs.Nesting.{kindOf, stackOf, roomAt, stack-push, stack-pop, stack-under}
 use Rattle.validate.specs.Opened.{led-opened}
@@ -172,7 +172,7 @@ module _ {s kinds : List ℕ} {depth i : ℕ} (q : Ready s kinds depth i) where
       depth ≡ 0 → {g r′ d′ due′ : ℕ} → TurnTo false i depth 2 g r′ d′ due′ → Turned (standing s 2 kinds depth i) s i kinds g r′ d′ due′
   unfolding standing outcome stackOf
   after-all z t =
-      turn-same (q .sized) t never (omega (arith, q .inside)) (q .shallow) (omega arith)
+      turn-same (q .sized) t (λ e. absurd (false≢true e)) (omega (arith, q .inside)) (q .shallow) (omega arith)
       (ap (λ (k : Stack). here s after k (roomAt depth) i) (ap (stackOf kinds) z)
       ∙ die-at s i after [] (roomAt depth) (q .inside) (step-by after [] endless {o = none} (past-blanks after [] (q .solid) nowhere)))
 
@@ -212,7 +212,7 @@ module _ {s kinds : List ℕ} {depth i : ℕ} (q : Ready s kinds depth i) where
         Turned (standing s 2 kinds depth i) s i kinds g r′ d′ due′
     unfolding outcome
     wrong-turn m n t =
-        turn-same (q .sized) t never (omega (arith, q .inside)) (q .shallow) (omega arith)
+        turn-same (q .sized) t (λ e. absurd (false≢true e)) (omega (arith, q .inside)) (q .shallow) (omega arith)
         (around
         ∙ die-at s i after (kindOf kind ∷ stackOf kinds (depth - 1)) (roomAt depth) (q .inside)
         (step-by after (kindOf kind ∷ stackOf kinds (depth - 1)) endless {o = none}

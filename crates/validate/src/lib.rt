@@ -1,6 +1,4 @@
 // The check of a record: grounds 4 to 6 of document 01 in one pass, exactly RFC 8259 in UTF-8.
-ghost use Prim.Native.Nat.{_≤_};
-ghost use lib.ListN.{length};
 ghost use Rattle.json.specs.Verdict.{textVerdict, recordVerdict};
 ghost use Rattle.validate.specs.Checks.{Answers};
 use json::MAX_BYTES;

@@ -1,4 +1,5 @@
 pub mod Ahead
 pub mod AheadLaws
+pub mod Labels
 pub mod ValueLaws
 pub mod Walks

@@ -1,6 +1,6 @@
 -- `find::find_value` meets its contract: the check of the record decides first, and then the descent. Assumes nothing.
 use native.Mathlib.Omega.{arith}
-use Rattle.find.proofs.Answered.{finds-refused, record-is, finds-none, finds-end}
+use Rattle.find.proofs.Answered.{finds-refused, answered-record, finds-none, finds-end}
 use borrow.Author.Needs.{needs}
 use Rattle.find.proofs.find_value.Statement.{statement}
 use Rattle.find.proofs.find_value.Tie as tie
@@ -16,18 +16,18 @@ classes-requires c κs = search needs
 
 find-from-requires : tie.Need-find-from-requires
 find-from-requires c κs =
-    (c .before .classes .ensures, record-is (c .before .before .before .before .check-record .ensures) (c .before .before .if1 .left) .1 .bytes)
+    (c .before .classes .ensures, answered-record (c .before .before .before .before .check-record .ensures) (c .before .before .if1 .left) .1 .bytes)
 
 returns-2 : tie.Need-returns-2
 returns-2 c =
     let checked = c .before .before .before .before in
-    finds-none _ _ (record-is (checked .before .before .check-record .ensures) (checked .if1 .left) .1)
+    finds-none _ _ (answered-record (checked .before .before .check-record .ensures) (checked .if1 .left) .1)
     (c .before .find-from .ensures) (c .if2 .taken)
 
 returns-3 : tie.Need-returns-3
 returns-3 c =
     let checked = c .before .before .before .before in
-    finds-end _ _ (record-is (checked .before .before .check-record .ensures) (checked .if1 .left) .1)
+    finds-end _ _ (answered-record (checked .before .before .check-record .ensures) (checked .if1 .left) .1)
     (c .before .find-from .ensures) (c .if2 .left)
 
 pub find-value-spec : {M : Type 1} → statement M
