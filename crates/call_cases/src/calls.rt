@@ -5,7 +5,6 @@ use cases::show::print_next;
 use woodcrock::find_value;
 use woodcrock::read_value;
 use woodcrock::sort_block;
-ghost use Prim.Native.Nat.{_≤_};
 
 // The bytes of a block.
 const BLOCK: usize = 64;

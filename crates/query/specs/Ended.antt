@@ -6,7 +6,7 @@ use mathlib.Core.Bool.{Bool, true, false}
 use Prim.Native.Nat.{ℕ, suc}
 use Rattle.query.specs.Grammar as G
 use Rattle.query.specs.Machine as M
-use Rattle.query.specs.Machine.{Control, root, done, gap, opened, closing, inside, tailDue, State, dead, beginRows, step, final}
+use Rattle.query.specs.Machine.{Control, root, done, gap, opened, closing, inside, tailDue, State, dead, beginRules, step, final}
 use Rattle.query.specs.Read.{begin, Placed, named, Reading, good, bad, note, reading}
 use Rattle.query.specs.MachineLaws.{Lives, every-pick}
 use Rattle.query.specs.Spell as P
@@ -49,7 +49,7 @@ ended-state n b s (M.at (tailDue p k h)) e l again = absurd l
 
 begins-lives : (b : ℕ) → Lives Begins (step (M.at gap) b)
 unfolding step
-begins-lives b = every-pick Begins beginRows b (tt, (tt, (tt, (tt, (tt, (tt, tt))))))
+begins-lives b = every-pick Begins beginRules b (tt, (tt, (tt, (tt, (tt, (tt, tt))))))
 
 -- where nothing is left
 ended-nil : (c : Control) (n : ℕ) → Ended (reading c n [])

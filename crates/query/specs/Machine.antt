@@ -27,23 +27,23 @@ pub data State : Type 0 where
   at : Control → State
 
 -- the bytes of a range, and where they lead
-pub record Row : Type 0 where
+pub record Rule : Type 0 where
   pub low : ℕ
   pub high : ℕ
   pub to : Control
 
-abbrev pub range : ℕ → ℕ → Control → Row
+abbrev pub range : ℕ → ℕ → Control → Rule
 range l h c = record { low = l; high = h; to = c }
 
-abbrev pub only : ℕ → Control → Row
+abbrev pub only : ℕ → Control → Rule
 only b c = range b b c
 
-abbrev pub blankRows : Control → List Row → List Row
-blankRows c rs = only 0x20 c ∷ only 0x09 c ∷ only 0x0A c ∷ only 0x0D c ∷ rs
+abbrev pub blankRules : Control → List Rule → List Rule
+blankRules c rs = only 0x20 c ∷ only 0x09 c ∷ only 0x0A c ∷ only 0x0D c ∷ rs
 
 -- the first byte of a code point, by the rows of document 01 after the first
-abbrev pub wideRows : Home → List Row → List Row
-wideRows h rs =
+abbrev pub wideRules : Home → List Rule → List Rule
+wideRules h rs =
     range 0xC2 0xDF (tailDue anyTail 0 h) ∷
     range 0xE0 0xE0 (tailDue afterE0 1 h) ∷
     range 0xE1 0xEC (tailDue anyTail 1 h) ∷
@@ -54,34 +54,34 @@ wideRows h rs =
     range 0xF4 0xF4 (tailDue afterF4 2 h) ∷ rs
 
 -- name-first (RFC 9535 §2.5.1.1)
-abbrev pub letterRows : List Row → List Row
-letterRows rs = range 0x41 0x5A (inside short) ∷ range 0x61 0x7A (inside short) ∷ only 0x5F (inside short) ∷ rs
+abbrev pub letterRules : List Rule → List Rule
+letterRules rs = range 0x41 0x5A (inside short) ∷ range 0x61 0x7A (inside short) ∷ only 0x5F (inside short) ∷ rs
 
-abbrev pub firstRows : List Row → List Row
-firstRows rs = wideRows short (letterRows rs)
+abbrev pub firstRules : List Rule → List Rule
+firstRules rs = wideRules short (letterRules rs)
 
 -- what begins a step, and that with blanks before it
-abbrev pub stepRows : List Row
-stepRows = only 0x2E (dotted plain) ∷ only 0x5B opened ∷ []
+abbrev pub stepRules : List Rule
+stepRules = only 0x2E (dotted plain) ∷ only 0x5B opened ∷ []
 
-abbrev pub beginRows : List Row
-beginRows = blankRows gap stepRows
+abbrev pub beginRules : List Rule
+beginRules = blankRules gap stepRules
 
 -- what `.` and `..` may stand before, besides a shorthand name
-abbrev pub dotRow : Depth → Row
-dotRow plain = only 0x2E (dotted deep)
-dotRow deep = only 0x5B opened
+abbrev pub dotRule : Depth → Rule
+dotRule plain = only 0x2E (dotted deep)
+dotRule deep = only 0x5B opened
 
-abbrev pub dotRows : Depth → List Row
-dotRows d = only 0x2A done ∷ dotRow d ∷ []
+abbrev pub dotRules : Depth → List Rule
+dotRules d = only 0x2A done ∷ dotRule d ∷ []
 
 -- `*` and the quotes that begin a name in brackets
-abbrev pub innerRows : List Row
-innerRows = only 0x2A closing ∷ only 0x27 (inside (quoted single)) ∷ only 0x22 (inside (quoted double)) ∷ []
+abbrev pub innerRules : List Rule
+innerRules = only 0x2A closing ∷ only 0x27 (inside (quoted single)) ∷ only 0x22 (inside (quoted double)) ∷ []
 
 -- the bytes below 80 of a quoted name, and its closing quote
-abbrev pub charRows : Quote → List Row
-charRows q =
+abbrev pub charRules : Quote → List Rule
+charRules q =
     range 0x20 (beforeQuote q) (inside (quoted q)) ∷ range (afterQuote q) 0x5B (inside (quoted q)) ∷
     range 0x5D 0x7F (inside (quoted q)) ∷ only (quoteByte q) closing ∷ []
 
@@ -90,29 +90,29 @@ abbrev pub tailsDue : ℕ → Home → Control
 tailsDue zero h = inside h
 tailsDue (suc n) h = tailDue anyTail n h
 
--- what each control state takes: the first row that has the byte
-abbrev pub rows : Control → List Row
-rows root = only 0x24 done ∷ []
-rows done = beginRows
-rows gap = beginRows
-rows (dotted d) = firstRows (dotRows d)
-rows opened = blankRows opened innerRows
-rows closing = blankRows closing (only 0x5D done ∷ [])
-rows (inside short) = firstRows (range 0x30 0x39 (inside short) ∷ beginRows)
-rows (inside (quoted q)) = wideRows (quoted q) (charRows q)
-rows (tailDue p n h) = range (secondLow p) (secondHigh p) (tailsDue n h) ∷ []
+-- what each control state takes: the first rule that has the byte
+abbrev pub rules : Control → List Rule
+rules root = only 0x24 done ∷ []
+rules done = beginRules
+rules gap = beginRules
+rules (dotted d) = firstRules (dotRules d)
+rules opened = blankRules opened innerRules
+rules closing = blankRules closing (only 0x5D done ∷ [])
+rules (inside short) = firstRules (range 0x30 0x39 (inside short) ∷ beginRules)
+rules (inside (quoted q)) = wideRules (quoted q) (charRules q)
+rules (tailDue p n h) = range (secondLow p) (secondHigh p) (tailsDue n h) ∷ []
 
-abbrev pub takes : Row → ℕ → Bool
+abbrev pub takes : Rule → ℕ → Bool
 takes r b = leb (r .low) b && leb b (r .high)
 
-unfoldable pub pick : List Row → ℕ → State
+unfoldable pub pick : List Rule → ℕ → State
 pick [] b = dead
 pick (r ∷ rs) b = elim (takes r b) [ true ↦ at (r .to) | false ↦ pick rs b ]
 
 unfoldable pub step : State → ℕ → State
 unfolding pick
 step dead b = dead
-step (at c) b = pick (rows c) b
+step (at c) b = pick (rules c) b
 
 unfoldable pub run : State → List ℕ → State
 unfolding step

@@ -1,5 +1,5 @@
 -- What the machine accepts is the text of a query: `Rest c s`, that s completes a query from the control state c,
--- goes back over each row of the tables, from the last byte to the first. Assumes nothing.
+-- goes back over each rule of the tables, from the last byte to the first. Assumes nothing.
 use mathlib.Core.Path.{_≡_, refl}
 use mathlib.Core.List.{List, [], _∷_}
 use mathlib.Core.Bool.{Bool, true, false}
@@ -18,8 +18,8 @@ use Rattle.query.specs.Grammar.{putFirst, putLaters, putChar, putChars, 
 use Rattle.query.specs.Machine as M
 use Rattle.query.specs.Machine.{Home, short, quoted, Control, root, done, gap, opened, closing}
 use Rattle.query.specs.Machine.{inside, tailDue, State, dead, at}
-use Rattle.query.specs.Machine.{Row, range, only, wideRows, letterRows, firstRows, stepRows, beginRows, dotRows, innerRows, charRows}
-use Rattle.query.specs.Machine.{rows, takes, pick, step, run, final, accept, start}
+use Rattle.query.specs.Machine.{Rule, range, only, wideRules, letterRules, firstRules, stepRules, beginRules, dotRules, innerRules, charRules}
+use Rattle.query.specs.Machine.{rules, takes, pick, step, run, final, accept, start}
 
 -- what completes a query, by where the machine is
 
@@ -67,15 +67,15 @@ abbrev RestOf : State → List ℕ → Type 0
 RestOf dead s = ⊥
 RestOf (at c) s = Rest c s
 
--- each row of a table leads back to L
-abbrev Back : (List ℕ → Type 0) → Row → Type 0
+-- each rule of a table leads back to L
+abbrev Back : (List ℕ → Type 0) → Rule → Type 0
 Back L r = (b : In (r .low) (r .high)) (s : List ℕ) → Rest (r .to) s → L (b .byte ∷ s)
 
-abbrev Backs : (List ℕ → Type 0) → List Row → Type 0
+abbrev Backs : (List ℕ → Type 0) → List Rule → Type 0
 Backs L [] = Unit {0}
 Backs L (r ∷ rs) = Back L r × Backs L rs
 
-back-pick : (L : List ℕ → Type 0) (rs : List Row) (b : ℕ) (s : List ℕ) → Backs L rs → RestOf (pick rs b) s → L (b ∷ s)
+back-pick : (L : List ℕ → Type 0) (rs : List Rule) (b : ℕ) (s : List ℕ) → Backs L rs → RestOf (pick rs b) s → L (b ∷ s)
 unfolding pick
 back-pick L [] b s f x = absurd x
 back-pick L (r ∷ rs) b s f x = go (takes r b) refl x (λ y. back-pick L rs b s (f .1) y)
@@ -85,23 +85,23 @@ back-pick L (r ∷ rs) b s f x = go (takes r b) refl x (λ y. back-pick L rs b s
     go false e y again = again y
 
 -- a table that leads back to less
-widen : (L K : List ℕ → Type 0) (rs : List Row) → ((s : List ℕ) → L s → K s) → Backs L rs → Backs K rs
+widen : (L K : List ℕ → Type 0) (rs : List Rule) → ((s : List ℕ) → L s → K s) → Backs L rs → Backs K rs
 widen L K [] g f = tt
 widen L K (r ∷ rs) g f = ((λ b s x. g (b .byte ∷ s) (f .0 b s x)), widen L K rs g (f .1))
 
--- a row of one byte
+-- a rule of one byte
 one : (n : ℕ) (c : Control) (L : List ℕ → Type 0) → ((s : List ℕ) → Rest c s → L (n ∷ s)) → Back L (only n c)
 one n c L f b s x = let e : b .byte ≡ n = omega (arith, from-low b, to-high b) in rw e (f s x)
 
 -- blanks before what takes blanks
-back-blanks : (c : Control) (L : List ℕ → Type 0) (rs : List Row) → ((b : Blank) (s : List ℕ) → Rest c s → L (blankByte b ∷ s)) →
-    Backs L rs → Backs L (M.blankRows c rs)
+back-blanks : (c : Control) (L : List ℕ → Type 0) (rs : List Rule) → ((b : Blank) (s : List ℕ) → Rest c s → L (blankByte b ∷ s)) →
+    Backs L rs → Backs L (M.blankRules c rs)
 back-blanks c L rs f r =
     (one 0x20 c L (f B.space), (one 0x09 c L (f B.tab), (one 0x0A c L (f B.feed), (one 0x0D c L (f B.return), r))))
 
 -- a code point before what takes one
-back-wide : (h : Home) (L : List ℕ → Type 0) (rs : List Row) → ((p : Wide) (s : List ℕ) → Inside h s → L (putWide p s)) → Backs L rs →
-    Backs L (wideRows h rs)
+back-wide : (h : Home) (L : List ℕ → Type 0) (rs : List Rule) → ((p : Wide) (s : List ℕ) → Inside h s → L (putWide p s)) → Backs L rs →
+    Backs L (wideRules h rs)
 unfolding putWide
 back-wide h L rs f r =
     (c2-df, (e0, (e1-ec, (ed, (ee-ef, (f0, (f1-f3, (f4, r))))))))
@@ -131,11 +131,11 @@ back-wide h L rs f r =
     f4 b s (then y (then z (then {s = u} w x))) = f (U.f4 b y z w) u x
 
 -- a name's first character before the rest of a shorthand name
-back-first : (L : List ℕ → Type 0) (rs : List Row) → ((x : First) (s : List ℕ) → Shorthand s → L (putFirst x s)) → Backs L rs →
-    Backs L (firstRows rs)
+back-first : (L : List ℕ → Type 0) (rs : List Rule) → ((x : First) (s : List ℕ) → Shorthand s → L (putFirst x s)) → Backs L rs →
+    Backs L (firstRules rs)
 unfolding putFirst
 back-first L rs f r =
-    back-wide short L (letterRows rs) (λ p s x. f (First.wide p) s x)
+    back-wide short L (letterRules rs) (λ p s x. f (First.wide p) s x)
     ((λ b s x. f (G.upper b) s x), ((λ b s x. f (G.lower b) s x), (one 0x5F (inside short) L (λ s x. f G.underscore s x), r)))
 
 -- before a step
@@ -154,8 +154,8 @@ bracket-gap : (s : List ℕ) → Opened s → Gap (0x5B ∷ s)
 unfolding putBlanks putSegment
 bracket-gap s (opens w i w′ t) = spaced [] (G.bracketed G.plain w i w′) t
 
-back-gap : Backs Gap beginRows
-back-gap = back-blanks gap Gap stepRows blank-gap (one 0x2E (M.dotted G.plain) Gap dot-gap, (one 0x5B opened Gap bracket-gap, tt))
+back-gap : Backs Gap beginRules
+back-gap = back-blanks gap Gap stepRules blank-gap (one 0x2E (M.dotted G.plain) Gap dot-gap, (one 0x5B opened Gap bracket-gap, tt))
 
 gap-done : (s : List ℕ) → Gap s → Done s
 unfolding putQuery putSpaced
@@ -171,10 +171,10 @@ dotted-star : (d : Depth) (s : List ℕ) → Done s → Dotted d (0x2A ∷ s)
 unfolding putShort
 dotted-star d s (steps t) = takes-short Short.star t
 
-back-dotted : (d : Depth) → Backs (Dotted d) (rows (M.dotted d))
-back-dotted G.plain = back-first (Dotted G.plain) (dotRows G.plain) (dotted-first G.plain)
+back-dotted : (d : Depth) → Backs (Dotted d) (rules (M.dotted d))
+back-dotted G.plain = back-first (Dotted G.plain) (dotRules G.plain) (dotted-first G.plain)
     (one 0x2A done (Dotted G.plain) (dotted-star G.plain), (one 0x2E (M.dotted G.deep) (Dotted G.plain) (λ s x. deeper x), tt))
-back-dotted G.deep = back-first (Dotted G.deep) (dotRows G.deep) (dotted-first G.deep)
+back-dotted G.deep = back-first (Dotted G.deep) (dotRules G.deep) (dotted-first G.deep)
     (one 0x2A done (Dotted G.deep) (dotted-star G.deep), (one 0x5B opened (Dotted G.deep) (λ s x. brackets x), tt))
 
 done-shorthand : (s : List ℕ) → Done s → Shorthand s
@@ -219,10 +219,10 @@ quote-quoted : (q : Quote) (s : List ℕ) → Closing s → Quoted q (quoteByte 
 unfolding putChars
 quote-quoted q s x = chars [] x
 
-back-quoted : (q : Quote) → Backs (Quoted q) (rows (inside (quoted q)))
+back-quoted : (q : Quote) → Backs (Quoted q) (rules (inside (quoted q)))
 unfolding putChar
 back-quoted q =
-    back-wide (quoted q) (Quoted q) (charRows q) (λ p s x. char-quoted q (Char.wide p) s x) (
+    back-wide (quoted q) (Quoted q) (charRules q) (λ p s x. char-quoted q (Char.wide p) s x) (
       (λ b s x. char-quoted q (G.low b) s x),
       (
         (λ b s x. char-quoted q (G.mid b) s x),
@@ -233,13 +233,13 @@ back-quoted q =
 root-done : (s : List ℕ) → Done s → Root (0x24 ∷ s)
 root-done s (steps t) = begins t
 
-back : (c : Control) → Backs (Rest c) (rows c)
+back : (c : Control) → Backs (Rest c) (rules c)
 back root = (one 0x24 done Root root-done, tt)
-back done = widen Gap Done beginRows gap-done back-gap
+back done = widen Gap Done beginRules gap-done back-gap
 back gap = back-gap
 back (M.dotted d) = back-dotted d
 back opened =
-    back-blanks opened Opened innerRows blank-opened (
+    back-blanks opened Opened innerRules blank-opened (
       one 0x2A closing Opened opened-star,
       (
         one 0x27 (inside (quoted G.single)) Opened (opened-quote G.single),
@@ -247,8 +247,8 @@ back opened =
       ),
     )
 back closing = back-blanks closing Closing (only 0x5D done ∷ []) blank-closing (one 0x5D done Closing closing-done, tt)
-back (inside short) = back-first Shorthand (range 0x30 0x39 (inside short) ∷ beginRows) shorthand-first
-    (shorthand-digit, widen Gap Shorthand beginRows (λ s x. done-shorthand s (gap-done s x)) back-gap)
+back (inside short) = back-first Shorthand (range 0x30 0x39 (inside short) ∷ beginRules) shorthand-first
+    (shorthand-digit, widen Gap Shorthand beginRules (λ s x. done-shorthand s (gap-done s x)) back-gap)
 back (inside (quoted q)) = back-quoted q
 back (tailDue p zero h) = ((λ b s x. then b x), tt)
 back (tailDue p (suc n) h) = ((λ b s x. then b x), tt)
@@ -256,7 +256,7 @@ back (tailDue p (suc n) h) = ((λ b s x. then b x), tt)
 back-step : (st : State) (b : ℕ) (s : List ℕ) → RestOf (step st b) s → RestOf st (b ∷ s)
 unfolding step
 back-step dead b s x = x
-back-step (at c) b s x = back-pick (Rest c) (rows c) b s (back c) x
+back-step (at c) b s x = back-pick (Rest c) (rules c) b s (back c) x
 
 -- nothing is left
 over : Done []

@@ -16,8 +16,8 @@ use Rattle.query.specs.Grammar.{First, Later, Quote, Char}
 use Rattle.query.specs.Grammar.{putFirst, putLater, putLaters, putChar, putChars}
 use Rattle.query.specs.Machine as M
 use Rattle.query.specs.Machine.{Home, short, quoted}
-use Rattle.query.specs.Machine.{Control, root, done, gap, opened, closing, inside, tailDue, State, dead, at, Row, range, rows}
-use Rattle.query.specs.Machine.{wideRows, firstRows, tailsDue, step}
+use Rattle.query.specs.Machine.{Control, root, done, gap, opened, closing, inside, tailDue, State, dead, at, Rule, range, rules}
+use Rattle.query.specs.Machine.{wideRules, firstRules, tailsDue, step}
 use Rattle.query.specs.Read as R
 use Rattle.query.specs.Read.{Event, keep, begin, letter, isDotted, isOpened, event, Placed, named, Reading, good, bad, note, reading}
 use Rattle.query.specs.MachineLaws.{hit, landing, leads-in}
@@ -98,8 +98,8 @@ pub spells-last-three : (p : Second) (h : Home) (x : In (secondLow p) (secondHig
     Spells (tailDue p 2 h) (x .byte ∷ y .byte ∷ z .byte ∷ []) (inside h)
 spells-last-three p h x y z = spells-cons _ (tailDue anyTail 1 h) (inside h) (x .byte) _ (tail p 2 h x) refl (spells-last-two anyTail h y z)
 
-module _ (c : Control) (h : Home) (rs : List Row) (e : rows c ≡ wideRows h rs) where
-  lead : {lo hi : ℕ} (x : In lo hi) (k : Control) → landing lo hi (wideRows h rs) ≡ some (at k) → step (at c) (x .byte) ≡ at k
+module _ (c : Control) (h : Home) (rs : List Rule) (e : rules c ≡ wideRules h rs) where
+  lead : {lo hi : ℕ} (x : In lo hi) (k : Control) → landing lo hi (wideRules h rs) ≡ some (at k) → step (at c) (x .byte) ≡ at k
   lead x k f = leads-in c x (at k) (rw e f)
 
   pub spells-wide : (p : Wide) → Spells c (putWide p []) (inside h)
@@ -116,14 +116,14 @@ module _ (c : Control) (h : Home) (rs : List Row) (e : rows c ≡ wideRows h rs)
 -- names
 
 -- a byte of a range that is a letter by itself
-spells-byte : (c : Control) (h : Home) {lo hi : ℕ} (x : In lo hi) → landing lo hi (rows c) ≡ some (at (inside h)) →
+spells-byte : (c : Control) (h : Home) {lo hi : ℕ} (x : In lo hi) → landing lo hi (rules c) ≡ some (at (inside h)) →
     event c (inside h) ≡ letter → Spells c (x .byte ∷ []) (inside h)
 spells-byte c h x e f = spells-cons c (inside h) (inside h) (x .byte) [] (leads-in c x (at (inside h)) e) f (spells-nil (inside h))
 
 line : In 0x5F 0x5F
 line = record { byte = 0x5F; ok = tt }
 
-pub spells-first : (c : Control) (rs : List Row) → rows c ≡ firstRows rs → event c (inside short) ≡ letter → (x : First) →
+pub spells-first : (c : Control) (rs : List Rule) → rules c ≡ firstRules rs → event c (inside short) ≡ letter → (x : First) →
     Spells c (putFirst x []) (inside short)
 unfolding putFirst landing line
 spells-first c rs e f (G.upper x) = spells-byte c short x (rw e refl) f

@@ -19,7 +19,7 @@ use Rattle.query.specs.Grammar as G
 use Rattle.query.specs.Grammar.{First, Later, Char, Depth, Quote, quoteByte, putFirst, putLater, putLaters, putChar, putChars, putShort}
 use Rattle.query.specs.Append.{append-chars, append-short, laters-more, chars-more}
 use Rattle.query.specs.Machine as M
-use Rattle.query.specs.Machine.{Control, done, inside, short, quoted, dead, Row, range, firstRows, beginRows, dotRow, pick, step}
+use Rattle.query.specs.Machine.{Control, done, inside, short, quoted, dead, Rule, range, firstRules, beginRules, dotRule, pick, step}
 use Rattle.query.specs.Read.{reading}
 use Rattle.query.specs.Spell.{spell, spells-chars, alike}
 use Rattle.query.specs.Text.{spells-shorthand}
@@ -38,19 +38,19 @@ name-stands {b} (upper l h) s = (G.first (G.upper (L.make b l h)), refl)
 name-stands (underscore e) s = (G.first G.underscore, ap (λ (x : ℕ). x ∷ s) (sym e))
 name-stands {b} (lower l h) s = (G.first (G.lower (L.make b l h)), refl)
 
--- another byte below 80 is in no row for the first byte of a shorthand name, nor in that for digits
-no-first : {b : ℕ} → NameByteIs b false → b < 0x80 → (rs : List Row) → pick (firstRows rs) b ≡ pick rs b
+-- another byte below 80 is in no rule for the first byte of a shorthand name, nor in that for digits
+no-first : {b : ℕ} → NameByteIs b false → b < 0x80 → (rs : List Rule) → pick (firstRules rs) b ≡ pick rs b
 unfolding allParted
-no-first (below-digits h) w rs = passes {lo = 0} {hi = 0x2F} (omega arith) (omega arith) (firstRows []) rs tt
-no-first (below-upper l h) w rs = passes {lo = 0x3A} {hi = 0x40} (omega arith) (omega arith) (firstRows []) rs tt
+no-first (below-digits h) w rs = passes {lo = 0} {hi = 0x2F} (omega arith) (omega arith) (firstRules []) rs tt
+no-first (below-upper l h) w rs = passes {lo = 0x3A} {hi = 0x40} (omega arith) (omega arith) (firstRules []) rs tt
 no-first {b} (between-cases l f h) w rs = go (leb b 0x5E) refl
   where
-    go : (x : Bool) → leb b 0x5E ≡ x → pick (firstRows rs) b ≡ pick rs b
-    go true e = passes {lo = 0x5B} {hi = 0x5E} (omega arith) (leb-true b 0x5E e) (firstRows []) rs tt
-    go false e = passes {lo = 0x60} {hi = 0x60} (omega (arith, leb-false b 0x5E e)) (omega arith) (firstRows []) rs tt
-no-first (above-lower l) w rs = passes {lo = 0x7B} {hi = 0x7F} (omega arith) (omega arith) (firstRows []) rs tt
+    go : (x : Bool) → leb b 0x5E ≡ x → pick (firstRules rs) b ≡ pick rs b
+    go true e = passes {lo = 0x5B} {hi = 0x5E} (omega arith) (leb-true b 0x5E e) (firstRules []) rs tt
+    go false e = passes {lo = 0x60} {hi = 0x60} (omega (arith, leb-false b 0x5E e)) (omega arith) (firstRules []) rs tt
+no-first (above-lower l) w rs = passes {lo = 0x7B} {hi = 0x7F} (omega arith) (omega arith) (firstRules []) rs tt
 
-no-digit : {b : ℕ} → NameByteIs b false → (k : Control) (rs : List Row) → pick (range 0x30 0x39 k ∷ rs) b ≡ pick rs b
+no-digit : {b : ℕ} → NameByteIs b false → (k : Control) (rs : List Rule) → pick (range 0x30 0x39 k ∷ rs) b ≡ pick rs b
 no-digit {b} (below-digits h) k rs = miss (range 0x30 0x39 k) rs b (L.beneath 0x30 0x39 b h)
 no-digit {b} (below-upper l h) k rs = miss (range 0x30 0x39 k) rs b (L.beyond 0x30 0x39 b l)
 no-digit {b} (between-cases l f h) k rs = miss (range 0x30 0x39 k) rs b (L.beyond 0x30 0x39 b (omega arith))
@@ -59,15 +59,15 @@ no-digit {b} (above-lower l) k rs = miss (range 0x30 0x39 k) rs b (L.beyond 0x30
 -- so it ends the name, or is dead where the name is due
 name-over : {b : ℕ} → NameByteIs b false → b < 0x80 → step (M.at (inside short)) b ≡ step (M.at done) b
 unfolding step
-name-over x w = no-first x w (range 0x30 0x39 (inside short) ∷ beginRows) ∙ no-digit x (inside short) beginRows
+name-over x w = no-first x w (range 0x30 0x39 (inside short) ∷ beginRules) ∙ no-digit x (inside short) beginRules
 
 no-name : (d : Depth) {b : ℕ} → NameByteIs b false → b < 0x80 → NoName d b → step (M.at (M.dotted d)) b ≡ dead
 unfolding step pick
 no-name G.plain {b} x w n =
-    no-first x w (M.dotRows G.plain) ∙ miss-only 0x2A done (dotRow G.plain ∷ []) b (n .no-star) ∙
+    no-first x w (M.dotRules G.plain) ∙ miss-only 0x2A done (dotRule G.plain ∷ []) b (n .no-star) ∙
     miss-only 0x2E (M.dotted G.deep) [] b (n .no-deeper)
 no-name G.deep {b} x w n =
-    no-first x w (M.dotRows G.deep) ∙ miss-only 0x2A done (dotRow G.deep ∷ []) b (n .no-star) ∙ miss-only 0x5B M.opened [] b (n .no-deeper)
+    no-first x w (M.dotRules G.deep) ∙ miss-only 0x2A done (dotRule G.deep ∷ []) b (n .no-star) ∙ miss-only 0x5B M.opened [] b (n .no-deeper)
 
 digit-dies : (d : Depth) {b : ℕ} → 0x30 ≤ b → b ≤ 0x39 → step (M.at (M.dotted d)) b ≡ dead
 unfolding landing

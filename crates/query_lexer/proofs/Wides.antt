@@ -15,8 +15,8 @@ use Rattle.encoding.specs.Utf8At.{RestAt, ReadsAt}
 use Rattle.encoding.specs.Utf8Steps as U
 use Rattle.encoding.specs.Utf8Steps.{Due, lowest, highest, First, Next}
 use Rattle.query.specs.Machine as M
-use Rattle.query.specs.Machine.{Home, Control, inside, tailDue, dead, Row, range}
-use Rattle.query.specs.Machine.{wideRows, rows, pick, step, final}
+use Rattle.query.specs.Machine.{Home, Control, inside, tailDue, dead, Rule, range}
+use Rattle.query.specs.Machine.{wideRules, rules, pick, step, final}
 use Rattle.query.specs.Grammar as G
 use Rattle.query.specs.Read.{bad, reading}
 use Rattle.query.specs.At.{end-at, stop-at, bad-at}
@@ -32,7 +32,7 @@ dueIn U.after-ed h = tailDue afterED 1 h
 dueIn U.after-f0 h = tailDue afterF0 2 h
 dueIn U.after-f4 h = tailDue afterF4 2 h
 
--- one row, from lo to hi
+-- one rule, from lo to hi
 module _ (lo hi : ℕ) (c : Control) (b : ℕ) where
   only-in : lo ≤ b → b ≤ hi → pick (range lo hi c ∷ []) b ≡ M.at c
   only-in l h = hit (range lo hi c) [] b (L.inside lo hi b l h)
@@ -97,8 +97,8 @@ pub record WideFrom (c : Control) (h : Home) : Type 0 where
   pub low : {b : ℕ} → 0x80 ≤ b → b < 0xC2 → step (M.at c) b ≡ dead
   pub high : {b : ℕ} → 0xF4 < b → step (M.at c) b ≡ dead
 
-module _ (c : Control) (h : Home) (rs : List Row) (e : rows c ≡ wideRows h rs) where
-  begin : {lo hi b : ℕ} → lo ≤ b → b ≤ hi → (k : Control) → landing lo hi (wideRows h rs) ≡ some (M.at k) → step (M.at c) b ≡ M.at k
+module _ (c : Control) (h : Home) (rs : List Rule) (e : rules c ≡ wideRules h rs) where
+  begin : {lo hi b : ℕ} → lo ≤ b → b ≤ hi → (k : Control) → landing lo hi (wideRules h rs) ≡ some (M.at k) → step (M.at c) b ≡ M.at k
   begin l u k f = leads c l u (M.at k) (rw e f)
 
   first-leads : {b : ℕ} {d : Due} → First b d → step (M.at c) b ≡ M.at (dueIn d h)
@@ -112,9 +112,9 @@ module _ (c : Control) (h : Home) (rs : List Row) (e : rows c ≡ wideRows h rs)
   first-leads (U.in-f1-f3 l u) = begin l u (tailDue anyTail 2 h) refl
   first-leads (U.in-f4 l u) = begin l u (tailDue afterF4 2 h) refl
 
-  wide-from : landing 0x80 0xC1 (rows c) ≡ some dead → T (allUnder 0xF5 (rows c)) → WideFrom c h
+  wide-from : landing 0x80 0xC1 (rules c) ≡ some dead → T (allUnder 0xF5 (rules c)) → WideFrom c h
   unfolding step
-  wide-from f t = record { first = first-leads; low = λ l u. leads c l (omega arith) dead f; high = λ l. dies-above l (rows c) t }
+  wide-from f t = record { first = first-leads; low = λ l u. leads c l (omega arith) dead f; high = λ l. dies-above l (rules c) t }
 
 pub wide-dotted : (d : G.Depth) → WideFrom (M.dotted d) M.short
 unfolding landing allUnder

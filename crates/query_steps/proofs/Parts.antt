@@ -21,7 +21,7 @@ use Rattle.query.specs.Grammar.{putSegment, putSpaced, isDeep, segmentStep}
 use Rattle.query.specs.Steps as S
 use Rattle.query.specs.Steps.{Selector}
 use Rattle.query.specs.Machine as M
-use Rattle.query.specs.Machine.{Control, done, gap, opened, closing, inside, quoted, dead, Row, blankRows, pick, step, run, place, start}
+use Rattle.query.specs.Machine.{Control, done, gap, opened, closing, inside, quoted, dead, Rule, blankRules, pick, step, run, place, start}
 use Rattle.query.specs.Read as R
 use Rattle.query.specs.Read.{begin, deepen, Reading, good, bad, note, reading}
 use Rattle.query.specs.MachineLaws.{miss-only}
@@ -56,20 +56,20 @@ push-deep : (n b m c : ℕ) (x : Selector) (r : Reading) →
 push-deep n b m c x (good a) = refl
 push-deep n b m c x (bad p) = refl
 
--- a byte that is no blank is in no row of blanks
-no-blank : {b : ℕ} → BlankIs b false → (c : Control) (rs : List Row) → pick (blankRows c rs) b ≡ pick rs b
+-- a byte that is no blank is in no rule of blanks
+no-blank : {b : ℕ} → BlankIs b false → (c : Control) (rs : List Rule) → pick (blankRules c rs) b ≡ pick rs b
 no-blank {b} (other f) c rs =
     miss-only 0x20 c _ b (f B.space) ∙ miss-only 0x09 c _ b (f B.tab) ∙ miss-only 0x0A c _ b (f B.feed) ∙ miss-only 0x0D c rs b (f B.return)
 
 other-gap : {b : ℕ} → BlankIs b false → (b ≡ 0x2E → ⊥) → (b ≡ 0x5B → ⊥) → step (M.at gap) b ≡ dead
 unfolding step pick
-other-gap {b} x f g = no-blank x gap M.stepRows ∙ miss-only 0x2E (M.dotted G.plain) (M.only 0x5B opened ∷ []) b f ∙ miss-only 0x5B opened [] b g
+other-gap {b} x f g = no-blank x gap M.stepRules ∙ miss-only 0x2E (M.dotted G.plain) (M.only 0x5B opened ∷ []) b f ∙ miss-only 0x5B opened [] b g
 
 other-opened : {b : ℕ} → BlankIs b false → (b ≡ 0x2A → ⊥) → (b ≡ 0x27 → ⊥) → (b ≡ 0x22 → ⊥) → step (M.at opened) b ≡ dead
 unfolding step pick
 other-opened {b} x f g h =
-    let second : List Row = M.only 0x22 (inside (quoted G.double)) ∷ [] in
-    no-blank x opened M.innerRows ∙ miss-only 0x2A closing (M.only 0x27 (inside (quoted G.single)) ∷ second) b f ∙
+    let second : List Rule = M.only 0x22 (inside (quoted G.double)) ∷ [] in
+    no-blank x opened M.innerRules ∙ miss-only 0x2A closing (M.only 0x27 (inside (quoted G.single)) ∷ second) b f ∙
     miss-only 0x27 (inside (quoted G.single)) second b g ∙ miss-only 0x22 (inside (quoted G.double)) [] b h
 
 other-closing : {b : ℕ} → BlankIs b false → (b ≡ 0x5D → ⊥) → step (M.at closing) b ≡ dead

@@ -1,6 +1,6 @@
 -- `call_cases::calls::run_blocks` is safe and ends. The loop's invariant: no more is left than the record has.
 -- The measure is what is left. Assumes nothing.
-use Prim.Native.Nat.{_≤_, _-_}
+use Prim.Native.Nat.{_≤_}
 use lib.ListN.{length}
 use borrow.Author.Needs.{needs}
 use Rattle.call_cases.proofs.calls.run_blocks.Statement.{statement}

@@ -1,6 +1,6 @@
 -- `call_cases::lists::changed` meets its contract. The loop's invariant: `end` is at most the list's length.
 -- The measure is `end` itself. Assumes nothing.
-use Prim.Native.Nat.{_≤_, _-_}
+use Prim.Native.Nat.{_≤_}
 use lib.ListN.{length}
 use borrow.Author.Needs.{needs}
 use Rattle.call_cases.proofs.lists.changed.Statement.{statement}
