@@ -1,4 +1,4 @@
--- `find::find_from` meets its contract: behind the first blanks stands the root, and every value is the root or below it. Assumes nothing.
+-- `seek::find_from` meets its contract: behind the first blanks stands the root, and every value is the root or below it. Assumes nothing.
 use borrow.Author.Needs.{needs}
 use Rattle.seek.proofs.Descent.{seeks-root}
 use Rattle.seek.proofs.find_from.Statement.{statement}

@@ -1,4 +1,4 @@
--- `find::first_item` meets its contract: behind the blanks stands the closing bracket or an item. Assumes nothing.
+-- `seek::first_item` meets its contract: behind the blanks stands the closing bracket or an item. Assumes nothing.
 use mathlib.Core.Path.{sym, _∙_}
 use Rattle.seek.proofs.Items.{first-outside, first-closed, first-ahead}
 use borrow.Author.Needs.{needs}

@@ -1,4 +1,4 @@
--- `find::next_item` meets its contract: behind the blanks stands a comma or the closing bracket. Assumes nothing.
+-- `seek::next_item` meets its contract: behind the blanks stands a comma or the closing bracket. Assumes nothing.
 use Rattle.seek.proofs.Items.{next-outside, next-ahead, next-closed}
 use borrow.Author.Needs.{needs}
 use Rattle.seek.proofs.next_item.Statement.{statement}

@@ -1,4 +1,4 @@
--- `find::value_end` meets its contract: the class of the first byte tells which scanner passes the value. Assumes nothing.
+-- `seek::value_end` meets its contract: the class of the first byte tells which scanner passes the value. Assumes nothing.
 use mathlib.Core.Path.{sym, _∙_}
 use Rattle.seek.proofs.Values.{ends-outside, ends-scalar, ends-container}
 use borrow.Author.Needs.{needs}
