@@ -6,6 +6,7 @@ pub mod ClassLaws
 pub mod ClassTable
 pub mod CodePoint
 pub mod CodePointLaws
+pub mod Decimal
 pub mod Examples
 pub mod Prefix
 pub mod PrefixLaws

@@ -70,6 +70,7 @@ named w l = taking (S.name w) l
 abbrev pub nameBytes : Selector → List ℕ
 nameBytes (S.name w) = w
 nameBytes S.every = []
+nameBytes (S.position j) = []
 
 -- what is known with one byte more, b at the place n
 abbrev pub noted : Event → ℕ → ℕ → Ahead → Ahead

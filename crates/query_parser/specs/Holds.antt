@@ -8,17 +8,19 @@ use lib.ListN.{length, getD, getElem?, replicate}
 use lib.Seq.{slice}
 use Rattle.bits.specs.Bits.{bit}
 use Rattle.query_parser.specs.declared.compiled.Compiled.{Compiled}
-use Rattle.query.specs.Steps.{Selector, name, every, Step, isDeep}
+use Rattle.query.specs.Steps.{Selector, name, every, position, Step, isDeep}
 use Rattle.query.specs.Read.{nameBytes}
 use Rattle.query.specs.Verdict.{maxSteps}
 
 abbrev pub isEvery : Selector → Bool
 isEvery (name w) = false
 isEvery every = true
+isEvery (position j) = false
 
 abbrev pub isNamed : Selector → Bool
 isNamed (name w) = true
 isNamed every = false
+isNamed (position j) = false
 
 -- of a step, if there is one: whether it takes `*`, whether it takes a name, and the bytes of its name
 

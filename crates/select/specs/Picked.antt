@@ -2,15 +2,18 @@
 use mathlib.Core.Path.{_≡_}
 use mathlib.Core.List.{List, [], _∷_, reverse}
 use mathlib.Core.Bool.{Bool, true, false}
-use Rattle.query.specs.Steps.{Selector, name, every, Step}
+use Rattle.query.specs.Steps.{Selector, name, every, position, Step}
 use Rattle.json.specs.Grammar.{Tree}
 use Rattle.select.specs.Nodes.{Label, member, element, Node, IsChild, Below, root}
 
--- `*` takes every member of an object and every element of an array; a name takes members only, by its bytes as written
+-- `*` takes every member of an object and every element of an array; a name takes members only, by its bytes as written; a position takes
+-- the element of an array that has it, and nothing of an object (change request S-1)
 abbrev pub Hits : Selector → Label → Type 0
 Hits every l = Unit {0}
 Hits (name k) (member k′) = k ≡ k′
 Hits (name k) (element j) = ⊥
+Hits (position j) (member k) = ⊥
+Hits (position j) (element j′) = j ≡ j′
 
 -- what the plain form of a step takes from p
 pub record TakesChild (sel : Selector) (p c : Node) : Type 0 where

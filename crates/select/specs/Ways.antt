@@ -2,11 +2,11 @@
 use mathlib.Core.List.{List, [], _∷_, reverse}
 use mathlib.Core.Bool.{Bool, true, false, _&&_, _||_, Bool·beq}
 use Prim.Native.Nat.{ℕ, zero, suc, _+_, max}
-use lib.Dec.{ltb}
+use lib.Dec.{ltb, eqb}
 use lib.ListN.{length, take, getElem?}
 use Rattle.encoding.specs.Bytes.{sameBytes}
 use Rattle.json.specs.Grammar.{Value, literal, number, string, container, Tree}
-use Rattle.query.specs.Steps.{Selector, name, every, Step, isDeep}
+use Rattle.query.specs.Steps.{Selector, name, every, position, Step, isDeep}
 use Rattle.select.specs.Nodes.{Label, member, element, Node, endOf}
 use Rattle.select.specs.Visits.{Visit, Way, nodes}
 
@@ -16,6 +16,8 @@ unfolding sameBytes
 hits every l = true
 hits (name k) (member k′) = sameBytes k k′
 hits (name k) (element j) = false
+hits (position j) (member k) = false
+hits (position j) (element j′) = eqb j j′
 
 -- f holds of the node at the way w, or, where the step is deep, of it or of some node above it
 unfoldable pub reached : (deep : Bool) → (Way → Bool) → Way → Bool

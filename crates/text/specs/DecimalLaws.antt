@@ -9,7 +9,8 @@ use native.Mathlib.Omega.{arith}
 use borrow.Author.Tests.{ltb-true, ltb-false}
 use lib.Dec.{ltb}
 use lib.ListN.{length, getD, length-append, List·getD-append}
-use Rattle.text.specs.Decimal.{digit, digitsOf, decimal, readOn, valueOf}
+use Rattle.encoding.specs.Decimal.{readOn, valueOf}
+use Rattle.text.specs.Decimal.{digit, digitsOf, decimal}
 
 -- one step of the digits
 lead-none : (m n : ℕ) → n < 10 → digitsOf (suc m) n ≡ digit n ∷ []
