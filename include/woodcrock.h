@@ -5,9 +5,11 @@
  * where in the record the nodes stand that the query picks out; nothing is copied or decoded.
  * Link with libwoodcrock_c.a.
  *
- * A query is `$` and then up to 16 steps: `.name`, `.*`, `['name']`, `["name"]` and `[*]` take from
- * the node itself; a deep step, `..` before the same (`..name`, `..['name']`), takes from the node
- * and from every node below it. Blanks may stand before a step and inside brackets.
+ * A query is `$` and then up to 16 steps: `.name`, `.*`, `['name']`, `["name"]`, `[*]` and `[2]` take
+ * from the node itself; a deep step, `..` before the same (`..name`, `..['name']`, `..[2]`), takes
+ * from the node and from every node below it. Blanks may stand before a step and inside brackets.
+ * A position is written as `0` or with a first digit other than 0, and is at most
+ * 9,007,199,254,740,991.
  *
  * What a caller owes. The calls cannot test these; all else is free, and any bytes are answered.
  *   - A pointer with a length n > 0 is that of n readable bytes, or, for `list`, of n readable and
@@ -86,7 +88,8 @@ typedef struct {
  *
  * The list is numbers, two to a node: the node's first byte and the byte after its last. Each node
  * is listed once, and the first bytes rise. A name in the query is compared byte for byte with what
- * stands between the quotes in the record; members that repeat a name all match.
+ * stands between the quotes in the record; members that repeat a name all match. A position takes
+ * the element of an array that has it, counted from 0, and nothing of an object.
  *
  * Ground 0: every node picked out is in the list, `pairs` of them, and no other. `peak` is the most
  *   frames on one path down from the root: an object or array below the root costs a frame if its

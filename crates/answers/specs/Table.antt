@@ -1,4 +1,5 @@
--- The starred rows of document 01, "Sample records": every number of each outcome, by computing the definitions that the listers' promise cites.
+-- The starred rows of document 01, "Sample records", and those of change request S-1, which supersedes the row `$[0]`: every number of each
+-- outcome, by computing the definitions that the listers' promise cites.
 use mathlib.Core.Path.{_≡_, refl}
 use mathlib.Core.List.{List, [], _∷_, map}
 use Prim.Native.Nat.{ℕ}
@@ -32,22 +33,33 @@ table =
     row (ascii "$") (ascii "01") old (refused 5 1 0 old) ∷
     []
 
--- the twelve rows together; what a row says of any record holds of any list too
+-- the rows of change request S-1 with a record of their own
+abbrev pub positions : List Row
+positions =
+    row (ascii "$[2]") (ascii "[1,[2,3],4]") old (done 1 1 (9 ∷ 10 ∷ 93 ∷ 94 ∷ 95 ∷ 96 ∷ 97 ∷ [])) ∷
+    row (ascii "$..[0]") (ascii "[[7]]") old (done 2 0 (1 ∷ 4 ∷ 2 ∷ 3 ∷ 95 ∷ 96 ∷ 97 ∷ [])) ∷
+    row (ascii "$[0]") (ascii "{\"0\":1}") old (done 0 0 old) ∷
+    row (ascii "$..[1]") (ascii "[[1,2],[3,4]]") old (done 3 0 (4 ∷ 5 ∷ 7 ∷ 12 ∷ 10 ∷ 11 ∷ 97 ∷ [])) ∷
+    []
+
+-- the rows together; what a row says of any record holds of any list too
 pub record StarredRows : Type 0 where
-  -- the nine rows with a record of their own
+  -- the nine rows of document 01 with a record of their own, and those of change request S-1
   pub own-record : map (λ (r : Row). outcome (r .query) (r .text) (r .list)) table ≡ map (λ (r : Row). r .outcome) table
+  pub own-positions : map (λ (r : Row). outcome (r .query) (r .text) (r .list)) positions ≡ map (λ (r : Row). r .outcome) positions
   -- "empty", any record: "ground 2, place 0"
   pub empty-query : (text list : List ℕ) → outcome [] text list ≡ refused 2 0 0 list
   -- "`$.a` and a blank", any record: "ground 2, place 4"
   pub blank-at-the-end : (text list : List ℕ) → outcome (ascii "$.a ") text list ≡ refused 2 4 0 list
-  -- "`$[0]`", any record: "ground 2, place 2"
-  pub position : (text list : List ℕ) → outcome (ascii "$[0]") text list ≡ refused 2 2 0 list
+  -- `$[00]`, any record: ground 2, place 3 (change request S-1, in the place of document 01's row "`$[0]`")
+  pub zero-before : (text list : List ℕ) → outcome (ascii "$[00]") text list ≡ refused 2 3 0 list
 
 pub starred-rows : StarredRows
 unfolding outcome
 starred-rows = record {
   own-record = refl;
+  own-positions = refl;
   empty-query = λ text list. refl;
   blank-at-the-end = λ text list. refl;
-  position = λ text list. refl;
+  zero-before = λ text list. refl;
 }

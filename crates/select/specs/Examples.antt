@@ -5,7 +5,7 @@ use mathlib.Core.Bool.{true, false}
 use Prim.Native.Nat.{ℕ}
 use Rattle.json.specs.Grammar.{Char, high, digit, unicode, unsigned, whole, nofrac, noexp, array, object}
 use Rattle.json.specs.Grammar.{Key, Value, number, container, empty, items, end, more, Tree, text}
-use Rattle.query.specs.Steps.{Step, name, every}
+use Rattle.query.specs.Steps.{Step, name, every, position}
 use Rattle.select.specs.Marks.{Peak}
 use Rattle.select.specs.Ways.{Span, spans, peak}
 use Rattle.select.specs.Nodelist.{nodelist}
@@ -55,6 +55,10 @@ hollow = container object (empty [])
 abbrev single : Value → Value
 single v = container array (items [] tt v (end []))
 
+-- an array with two elements
+abbrev pair : Value → Value → Value
+pair v w = container array (items [] tt v (more [] [] tt w (end [])))
+
 -- ---- queries
 
 abbrev plain : List ℕ → Step
@@ -65,6 +69,12 @@ deep k = record { deep = true; selector = name k }
 
 abbrev all : Step
 all = record { deep = false; selector = every }
+
+abbrev at : ℕ → Step
+at j = record { deep = false; selector = position j }
+
+abbrev everywhere : ℕ → Step
+everywhere j = record { deep = true; selector = position j }
 
 abbrev span : ℕ → ℕ → Span
 span x y = record { first = x; end = y }
@@ -116,6 +126,34 @@ members = refl
 nameless : spans (just (single unit)) (plain (0x30 ∷ []) ∷ []) ≡ []
 unfolding spans
 nameless = refl
+
+-- `$[0]`, `$[1]` and `$[2]` on [1,1]: positions are counted from 0
+first : spans (just (pair unit unit)) (at 0 ∷ []) ≡ span 1 2 ∷ []
+unfolding spans
+first = refl
+
+second : spans (just (pair unit unit)) (at 1 ∷ []) ≡ span 3 4 ∷ []
+unfolding spans
+second = refl
+
+none-there : spans (just (pair unit unit)) (at 2 ∷ []) ≡ []
+unfolding spans
+none-there = refl
+
+-- `$[0]` on {"a":1}: a position takes no member, whichever comes first
+unnumbered : spans (just (one (a ∷ []) unit)) (at 0 ∷ []) ≡ []
+unfolding spans
+unnumbered = refl
+
+-- `$..[1]` on [[1,1],[1,1]]: each array has its own positions, and the outer one's go on behind the inner one
+own-positions : spans (just (pair (pair unit unit) (pair unit unit))) (everywhere 1 ∷ []) ≡ span 4 5 ∷ span 7 12 ∷ span 10 11 ∷ []
+unfolding spans
+own-positions = refl
+
+-- `$..[0]..[0]` on [[1,1],1]: RFC 9535 gives the same
+nodes-of-positions : nodelist (just (pair (pair unit unit) unit)) (everywhere 0 ∷ everywhere 0 ∷ []) ≡ record { value = unit; first = 2 } ∷ []
+unfolding nodelist
+nodes-of-positions = refl
 
 -- `$` on [1], and `$..*` on [[1]]: the root alone, and every node but the root, each before those in it
 whole-record : spans (just (single unit)) [] ≡ span 0 3 ∷ []

@@ -2,7 +2,7 @@
 //
 //   PEER FILE MILLISECONDS BATCH [STEP...]
 //
-// A step is `.name`, `..name`, `.*` or `..*`. The peer reads the file, counts the nodes that the
+// A step is `.name`, `.*` or `[2]`, or with two dots `..name`, `..*` or `..[2]`. The peer reads the file, counts the nodes that the
 // steps pick out of it again and again for so many milliseconds, so many times in a row for each
 // measurement, and prints the count and the nanoseconds of one time in the fastest row. Time is that
 // of the processor on this thread, so that other work on the machine does not count.
@@ -23,7 +23,9 @@
 // The steps of a query as bits: bit i is for step i + 1.
 struct Query {
     std::vector<std::string> names;
+    std::vector<size_t> positions; // 0 for a step without one
     uint32_t stars = 0;
+    uint32_t placed = 0;
     uint32_t deep = 0;
     uint32_t all = 0;
 
@@ -31,11 +33,14 @@ struct Query {
     {
         uint32_t bit = uint32_t(1) << names.size();
         bool is_deep = step.substr(0, 2) == "..";
-        std::string_view name = step.substr(is_deep ? 2 : 1);
+        std::string_view taken = step.substr(is_deep ? 2 : step[0] == '.' ? 1 : 0);
+        bool is_placed = taken.substr(0, 1) == "[";
         deep |= is_deep ? bit : 0;
-        stars |= name == "*" ? bit : 0;
+        stars |= taken == "*" ? bit : 0;
+        placed |= is_placed ? bit : 0;
         all |= bit;
-        names.emplace_back(name);
+        names.emplace_back(taken);
+        positions.push_back(is_placed ? std::stoul(std::string(taken.substr(1))) : 0);
     }
 
     // The steps of `marks` that take a member; `equals` compares a name of the query with its name.
@@ -44,14 +49,27 @@ struct Query {
         uint32_t taking = marks & stars;
         for (size_t at = 0; at < names.size(); at += 1) {
             uint32_t bit = uint32_t(1) << at;
-            if ((marks & ~stars & bit) != 0 && equals(std::string_view(names[at]))) {
+            if ((marks & ~stars & ~placed & bit) != 0 && equals(std::string_view(names[at]))) {
                 taking |= bit;
             }
         }
         return taking;
     }
 
-    uint32_t taking_element(uint32_t marks) const { return marks & stars; }
+    // The steps of `marks` that take the element at this position.
+    uint32_t taking_element(uint32_t marks, size_t position) const
+    {
+        uint32_t taking = marks & stars;
+        if ((marks & placed) != 0) {
+            for (size_t at = 0; at < positions.size(); at += 1) {
+                uint32_t bit = uint32_t(1) << at;
+                if ((marks & placed & bit) != 0 && positions[at] == position) {
+                    taking |= bit;
+                }
+            }
+        }
+        return taking;
+    }
 
     // The marks of a node that these steps take, below a node with these marks.
     uint32_t next(uint32_t marks, uint32_t taking) const

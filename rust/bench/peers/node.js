@@ -7,7 +7,9 @@ const [file, milliseconds, batch, ...words] = process.argv.slice(2);
 const bytes = fs.readFileSync(file);
 const steps = words.map((word) => {
     const deep = word.startsWith('..');
-    return { deep, name: word.slice(deep ? 2 : 1) };
+    const taken = word.slice(deep ? 2 : word.startsWith('.') ? 1 : 0);
+    const position = taken.startsWith('[') ? parseInt(taken.slice(1), 10) : -1;
+    return { deep, name: position < 0 ? taken : null, position };
 });
 const all = (1 << steps.length) - 1;
 const mask = (test) => steps.reduce((bits, step, at) => bits | (test(step) ? 1 << at : 0), 0);
@@ -24,6 +26,20 @@ function takingMember(marks, key) {
     return taking;
 }
 
+const placed = mask((step) => step.position >= 0);
+
+function takingElement(marks, position) {
+    let taking = marks & stars;
+    if ((marks & placed) !== 0) {
+        for (let at = 0; at < steps.length; at += 1) {
+            if ((marks & (1 << at)) !== 0 && steps[at].position === position) {
+                taking |= 1 << at;
+            }
+        }
+    }
+    return taking;
+}
+
 function below(value, marks) {
     let nodes = 0;
     const take = (child, taking) => {
@@ -34,8 +50,8 @@ function below(value, marks) {
         }
     };
     if (Array.isArray(value)) {
-        for (const child of value) {
-            take(child, marks & stars);
+        for (let position = 0; position < value.length; position += 1) {
+            take(value[position], takingElement(marks, position));
         }
     } else {
         for (const key in value) {

@@ -7,8 +7,10 @@ import time
 
 path, milliseconds, batch = sys.argv[1], int(sys.argv[2]), int(sys.argv[3])
 steps = [(word.startswith(".."), word.lstrip(".")) for word in sys.argv[4:]]
+positions = {at: int(taken[1:-1]) for at, (_, taken) in enumerate(steps) if taken.startswith("[")}
 everything = (1 << len(steps)) - 1
-stars = sum(1 << at for at, (_, name) in enumerate(steps) if name == "*")
+stars = sum(1 << at for at, (_, taken) in enumerate(steps) if taken == "*")
+placed = sum(1 << at for at in positions)
 deeps = sum(1 << at for at, (deep, _) in enumerate(steps) if deep)
 sys.setrecursionlimit(10_000)
 
@@ -16,14 +18,23 @@ sys.setrecursionlimit(10_000)
 def taking_member(marks, key):
     taking = marks & stars
     for at, (_, name) in enumerate(steps):
-        if marks & ~stars & (1 << at) and name == key:
+        if marks & ~stars & ~placed & (1 << at) and name == key:
             taking |= 1 << at
+    return taking
+
+
+def taking_element(marks, index):
+    taking = marks & stars
+    if marks & placed:
+        for at, position in positions.items():
+            if marks & (1 << at) and position == index:
+                taking |= 1 << at
     return taking
 
 
 def below(value, marks):
     if isinstance(value, list):
-        children = ((marks & stars, child) for child in value)
+        children = ((taking_element(marks, index), child) for index, child in enumerate(value))
     else:
         children = ((taking_member(marks, key), child) for key, child in value.items())
     nodes = 0

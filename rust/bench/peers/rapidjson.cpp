@@ -18,9 +18,11 @@ struct Counter {
     uint32_t marks = 0;  // of the innermost container
     uint32_t taking = 0; // the steps that take the next value
     bool in_object = false;
+    size_t elements = 0; // of the innermost array, so far
     struct Outer {
         uint32_t marks;
         bool in_object;
+        size_t elements;
     };
     std::vector<Outer> outer;
 
@@ -29,7 +31,8 @@ struct Counter {
     void take()
     {
         if (!in_object) {
-            taking = query.taking_element(marks);
+            taking = query.taking_element(marks, elements);
+            elements += 1;
         }
         nodes += query.picked(taking);
     }
@@ -49,9 +52,10 @@ struct Counter {
             take();
             inner = query.next(marks, taking);
         }
-        outer.push_back({marks, in_object});
+        outer.push_back({marks, in_object, elements});
         marks = inner;
         in_object = object;
+        elements = 0;
         return true;
     }
 
@@ -59,6 +63,7 @@ struct Counter {
     {
         marks = outer.back().marks;
         in_object = outer.back().in_object;
+        elements = outer.back().elements;
         outer.pop_back();
         return true;
     }

@@ -9,8 +9,11 @@ static size_t below(const Query &query, dom::element value, uint32_t marks)
 {
     size_t nodes = 0;
     if (value.is_array()) {
+        size_t position = 0;
         for (dom::element child : dom::array(value)) {
-            uint32_t taking = query.taking_element(marks), next = query.next(marks, taking);
+            uint32_t taking = query.taking_element(marks, position);
+            uint32_t next = query.next(marks, taking);
+            position += 1;
             nodes += query.picked(taking) + (next != 0 ? below(query, child, next) : 0);
         }
     } else if (value.is_object()) {

@@ -23,9 +23,10 @@ static size_t inside(const Query &query, ondemand::value value, uint32_t marks)
 
 static size_t below(const Query &query, ondemand::array array, uint32_t marks)
 {
-    size_t nodes = 0;
-    uint32_t taking = query.taking_element(marks), next = query.next(marks, taking);
+    size_t nodes = 0, position = 0;
     for (ondemand::value child : array) {
+        uint32_t taking = query.taking_element(marks, position), next = query.next(marks, taking);
+        position += 1;
         nodes += query.picked(taking) + (next != 0 ? inside(query, child, next) : 0);
     }
     return nodes;

@@ -21,6 +21,8 @@ pub const PLAIN: &str = "plain";
 const DEEP: &str = "deep";
 const STAR: &str = "everything";
 const DEAD: &str = "dead parts";
+const PLACED: &str = "position";
+const ALL_PLACED: &str = "deep position";
 
 const ALL_BELOW: &str = ".. | .[]?";
 
@@ -43,18 +45,24 @@ const T_BELOW_BLEND: &str = r#"
         else empty end;
     outermost"#;
 
-/// Five queries on each record.
-pub const JOBS: [Job; 20] = [
+/// The third element of every array.
+const THIRDS: &str = ".. | arrays | select(length > 2) | .[2]";
+
+/// Five queries on each record, and queries with positions on those with long arrays.
+pub const JOBS: [Job; 23] = [
     job("feed", CHECK, &[], "."),
     job("feed", PLAIN, &[".statuses", ".*", ".user", ".name"], ".statuses[].user.name"),
     job("feed", DEEP, &["..id"], r#".. | objects | select(has("id")) | .id"#),
     job("feed", STAR, &["..*"], ALL_BELOW),
     job("feed", DEAD, &[".search_metadata", ".count"], ".search_metadata.count"),
+    job("feed", PLACED, &[".statuses", "[100]", ".user", ".name"], ".statuses[100].user.name"),
+    job("feed", ALL_PLACED, &["..[2]"], THIRDS),
     job("numbers", CHECK, &[], "."),
     job("numbers", PLAIN, &[".*", ".coordinates", ".*", ".*"], ".[].coordinates[][]"),
     job("numbers", DEEP, &["..area"], r#".. | objects | select(has("area")) | .area"#),
     job("numbers", STAR, &["..*"], ALL_BELOW),
     job("numbers", DEAD, &[".*", ".area"], ".[].area"),
+    job("numbers", ALL_PLACED, &["..[2]"], THIRDS),
     job("deep", CHECK, &[], "."),
     job("deep", PLAIN, &[".*", ".blend", ".t"], ".[] | objects | .blend | objects | .t | numbers"),
     job("deep", DEEP, &["..blend", "..t"], T_BELOW_BLEND),
@@ -84,7 +92,12 @@ mod tests {
         for (name, generator) in ALL {
             let record = generator(300_000);
             let jobs: Vec<&Job> = JOBS.iter().filter(|job| job.record == name).collect();
-            assert!(jobs.iter().map(|job| job.kind).eq([CHECK, PLAIN, DEEP, STAR, DEAD]));
+            let kinds = [CHECK, PLAIN, DEEP, STAR, DEAD].iter().chain(match name {
+                "feed" => &[PLACED, ALL_PLACED][..],
+                "numbers" => &[ALL_PLACED],
+                _ => &[],
+            });
+            assert!(jobs.iter().map(|job| job.kind).eq(kinds.copied()));
             for job in jobs {
                 let nodes = woodcrock::list(job.query().as_bytes(), &record).map(|list| list.len());
                 assert!(nodes.is_ok_and(|nodes| nodes > 0), "{}", job.query());

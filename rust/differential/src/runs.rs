@@ -46,7 +46,7 @@ fn offsets(random: &mut Random, record: &[u8]) -> [usize; 4] {
 /// The sample rows of document 01, and names of about a thousand bytes.
 pub fn samples(comparison: &mut Comparison) -> Result<(), Mismatch> {
     let mut random = Random::new(0);
-    let rows: [(&str, &str); 13] = [
+    let rows: [(&str, &str); 17] = [
         ("$", "7"),
         ("$.M", r#"{"M":1,"M":2}"#),
         ("$..a..b", r#"{"a":{"a":{"b":1}}}"#),
@@ -56,7 +56,11 @@ pub fn samples(comparison: &mut Comparison) -> Result<(), Mismatch> {
         ("$.lot", r#"{"x":"lot\":9}"}"#),
         ("", "7"),
         ("$.a ", "7"),
-        ("$[0]", "7"),
+        ("$[00]", "7"),
+        ("$[0]", r#"{"0":1}"#),
+        ("$[2]", "[1,[2,3],4]"),
+        ("$..[0]", "[[7]]"),
+        ("$..[1]", "[[1,2],[3,4]]"),
         ("$", "[1,]"),
         ("$", "01"),
         ("$", "tru"),

@@ -2,7 +2,7 @@
 //! one fault, and each fault has to be found within the number of cases that the tests run.
 
 use differential::{blocks, deep, long, random, Comparison, DeepCall, Engine, Mismatch};
-use oracle::{Answer, Refusal, Selector, Step, Tree, Value, Words};
+use oracle::{Answer, Node, Refusal, Selector, Step, Tree, Value, Words, MAX_POSITION};
 
 const CASES: u64 = 10_000;
 
@@ -140,6 +140,110 @@ fn matching_the_beginning_of_a_name() {
                 nodes.map(|node| (node.start, node.end)).collect()
             }
             _ => pairs,
+        })
+    });
+}
+
+/// The lister with other positions in the place of those of the elements. The peak stays right.
+fn with_positions(
+    query: &[u8],
+    record: &[u8],
+    list: &mut [u32],
+    position: impl Fn(&Tree, &Node) -> Option<u32>,
+) -> Answer {
+    with_nodes(query, record, list, |tree, steps, _| {
+        let counted = |node: &Node| Node { position: position(tree, node), ..*node };
+        let tree = Tree { nodes: tree.nodes.iter().map(counted).collect() };
+        let chosen = oracle::picked(steps, record, &tree);
+        let nodes = tree.nodes.iter().zip(chosen).filter(|(_, chosen)| *chosen);
+        nodes.map(|(node, _)| (node.start, node.end)).collect()
+    })
+}
+
+#[test]
+fn faults_of_positions() {
+    // One that counts from 1.
+    found_in_lists(|query, record, list| {
+        with_positions(query, record, list, |_, node| node.position.map(|j| j + 1))
+    });
+    // One that goes on counting in an inner array.
+    found_in_lists(|query, record, list| {
+        with_positions(query, record, list, |tree, node| {
+            let mut position = node.position?;
+            let mut around = &tree.nodes[node.parent? as usize];
+            while let (Some(outer), Some(parent)) = (around.position, around.parent) {
+                position += outer;
+                around = &tree.nodes[parent as usize];
+            }
+            Some(position)
+        })
+    });
+    // One that starts anew behind an inner container.
+    found_in_lists(|query, record, list| {
+        with_positions(query, record, list, |tree, node| {
+            let before = |other: &&Node| {
+                (other.parent, other.kind.is_container()) == (node.parent, true)
+                    && other.start < node.start
+            };
+            let last = tree.nodes.iter().filter(before).last();
+            Some(node.position? - last.and_then(|last| last.position).map_or(0, |j| j + 1))
+        })
+    });
+    // One that counts members too.
+    found_in_lists(|query, record, list| {
+        with_positions(query, record, list, |tree, node| {
+            let before = |other: &&Node| other.parent == node.parent && other.start < node.start;
+            node.parent?;
+            Some(tree.nodes.iter().filter(before).count() as u32)
+        })
+    });
+    // One that compares 32 bits.
+    found_in_lists(|query, record, list| {
+        with_nodes(query, record, list, |tree, steps, _| {
+            let narrow = |step: &Step| match step.selector {
+                Selector::Position(j) => {
+                    Step { selector: Selector::Position(u64::from(j as u32)), ..step.clone() }
+                }
+                _ => step.clone(),
+            };
+            let steps: Vec<Step> = steps.iter().map(narrow).collect();
+            let chosen = oracle::picked(&steps, record, tree);
+            let nodes = tree.nodes.iter().zip(chosen).filter(|(_, chosen)| *chosen);
+            nodes.map(|(node, _)| (node.start, node.end)).collect()
+        })
+    });
+}
+
+/// A lister that reads another query where its own has a dead digit, if that one is taken.
+fn with_query(
+    query: &[u8],
+    record: &[u8],
+    list: &mut [u32],
+    other: impl Fn(&[u8], usize) -> Vec<u8>,
+) -> Answer {
+    match oracle::taken_steps(query) {
+        Err(Refusal { ground: 2, place }) if query.get(place).is_some_and(u8::is_ascii_digit) => {
+            let other = other(query, place);
+            let read = oracle::taken_steps(&other).map_or(query, |_| &other);
+            oracle::list(read, record, list)
+        }
+        _ => oracle::list(query, record, list),
+    }
+}
+
+#[test]
+fn positions_that_no_query_may_have() {
+    // A leading zero.
+    found_in_lists(|query, record, list| {
+        with_query(query, record, list, |query, place| {
+            [&query[..place - 1], &query[place..]].concat()
+        })
+    });
+    // 2^53.
+    found_in_lists(|query, record, list| {
+        with_query(query, record, list, |query, _| {
+            let text = String::from_utf8_lossy(query).into_owned();
+            text.replace(&(MAX_POSITION + 1).to_string(), &MAX_POSITION.to_string()).into_bytes()
         })
     });
 }

@@ -279,7 +279,8 @@ pub fn first_bracket_of_level(text: &[u8], wanted: usize) -> Option<usize> {
 }
 
 /// A value of a record. The name is where its bytes stand, between their quotes, and only a
-/// member of an object has one.
+/// member of an object has one; the position is counted from 0, and only an element of an array
+/// has one.
 #[derive(Clone, Copy, Debug)]
 pub struct Node {
     pub kind: Kind,
@@ -287,6 +288,7 @@ pub struct Node {
     pub end: u32,
     pub parent: Option<u32>,
     pub name: Option<(u32, u32)>,
+    pub position: Option<u32>,
 }
 
 impl Node {
@@ -302,10 +304,11 @@ pub struct Tree {
     pub nodes: Vec<Node>,
 }
 
-/// Builds the tree from what the reading tells.
+/// Builds the tree from what the reading tells. Of each open container it knows how many children
+/// there are so far.
 struct Builder {
     nodes: Vec<Node>,
-    open: Vec<u32>,
+    open: Vec<(u32, u32)>,
     name: Option<(u32, u32)>,
 }
 
@@ -317,10 +320,10 @@ impl Builder {
             Event::Open { kind, start } => {
                 let index = self.nodes.len() as u32;
                 self.add(kind, start, start);
-                self.open.push(index);
+                self.open.push((index, 0));
             }
             Event::Close { end } => {
-                if let Some(index) = self.open.pop() {
+                if let Some((index, _)) = self.open.pop() {
                     self.nodes[index as usize].end = end as u32;
                 }
             }
@@ -329,8 +332,14 @@ impl Builder {
 
     fn add(&mut self, kind: Kind, start: usize, end: usize) {
         let (start, end) = (start as u32, end as u32);
-        let parent = self.open.last().copied();
-        self.nodes.push(Node { kind, start, end, parent, name: self.name.take() });
+        let name = self.name.take();
+        let (mut parent, mut position) = (None, None);
+        if let Some((index, children)) = self.open.last_mut() {
+            let in_array = self.nodes[*index as usize].kind == Kind::Array;
+            (parent, position) = (Some(*index), in_array.then_some(*children));
+            *children += 1;
+        }
+        self.nodes.push(Node { kind, start, end, parent, name, position });
     }
 }
 

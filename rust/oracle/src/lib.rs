@@ -1,6 +1,7 @@
-//! An independent implementation of document 01.
+//! An independent implementation of document 01, with the change requests of document 02 that the
+//! library has.
 //!
-//! It is written from RFC 8259, RFC 3629, RFC 9535 and document 01, which decides over them in its
+//! It is written from RFC 8259, RFC 3629, RFC 9535 and these documents, which decide over them in
 //! three places, and from no other code. It builds a tree and evaluates by sets of nodes, in the
 //! words of the papers; it is meant to be read, and to be what other code is compared with.
 
@@ -19,6 +20,6 @@ pub use answers::{
 pub use json::{dead_byte, first_bracket_of_level, Kind, Node, Tree};
 pub use meaning::{frames, marks, peak, picked, takes};
 pub use picklist::{picklist, MAX_INPUT, PICKLIST_PAIRS};
-pub use query::{read_steps, taken_steps, Selector, Step, MAX_QUERY, MAX_STEPS};
+pub use query::{read_steps, taken_steps, Selector, Step, MAX_POSITION, MAX_QUERY, MAX_STEPS};
 pub use utf8::code_point;
 pub use words::{class, sort_block, Words, BLOCK};

@@ -6,11 +6,13 @@ use crate::json::{Node, Tree};
 use crate::query::{Selector, Step};
 
 /// Whether the plain form of a step takes this node from its parent: `*` takes every member and
-/// every element, a name takes the members whose name is written with the same bytes.
+/// every element, a name takes the members whose name is written with the same bytes, a position
+/// takes the element of an array that has it.
 pub fn takes(step: &Step, record: &[u8], node: &Node) -> bool {
     match &step.selector {
         Selector::Every => node.parent.is_some(),
         Selector::Name(name) => node.name_in(record) == Some(name),
+        Selector::Position(position) => node.position.map(u64::from) == Some(*position),
     }
 }
 

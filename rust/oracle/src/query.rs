@@ -8,11 +8,15 @@ pub const MAX_QUERY: usize = 1_024;
 /// The most steps of a query that is taken.
 pub const MAX_STEPS: usize = 16;
 
-/// What a step takes from a node: every child, or the members of a name.
+/// The largest position in an array that a query may ask for: 2^53 - 1 (RFC 9535, section 2.1).
+pub const MAX_POSITION: u64 = (1 << 53) - 1;
+
+/// What a step takes from a node: every child, the members of a name, or the element at a position.
 #[derive(Clone, PartialEq, Eq, Debug)]
 pub enum Selector {
     Every,
     Name(Vec<u8>),
+    Position(u64),
 }
 
 /// A step of a query, with the place of the `.` or `[` that begins it.
@@ -103,8 +107,8 @@ impl Reading<'_> {
         Ok(Selector::Name(self.query[start..self.at].to_vec()))
     }
 
-    /// What stands in brackets after the opening one: one quoted name or one `*`, blanks around
-    /// it, and the closing bracket.
+    /// What stands in brackets after the opening one: one quoted name, one position or one `*`,
+    /// blanks around it, and the closing bracket.
     fn bracketed(&mut self) -> Result<Selector, Stop> {
         self.blanks();
         let selector = match self.peek() {
@@ -113,6 +117,7 @@ impl Reading<'_> {
                 Selector::Every
             }
             Some(quote @ (b'\'' | b'"')) => self.quoted(quote)?,
+            Some(b'0'..=b'9') => self.position(),
             _ => return Err(self.at),
         };
         self.blanks();
@@ -120,6 +125,19 @@ impl Reading<'_> {
             return Err(self.at);
         }
         Ok(selector)
+    }
+
+    /// A position (RFC 9535, section 2.3.3, without the minus sign): `0`, or a digit other than 0
+    /// and then digits, as many as stand here and make a number up to the maximum.
+    fn position(&mut self) -> Selector {
+        let rest = &self.query[self.at..];
+        let digits = rest.iter().take_while(|byte| byte.is_ascii_digit()).count();
+        let longest = if rest[0] == b'0' { 1 } else { digits };
+        let number = |length: usize| std::str::from_utf8(&rest[..length]).ok()?.parse::<u64>().ok();
+        let fitting = |length: &usize| number(*length).is_some_and(|n| n <= MAX_POSITION);
+        let length = (1..=longest).rev().find(fitting).expect("one digit fits");
+        self.at += length;
+        Selector::Position(number(length).expect("it fits"))
     }
 
     /// A quoted name: no control below 20 (hexadecimal), no backslash, not its own quote.

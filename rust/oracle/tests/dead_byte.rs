@@ -135,7 +135,7 @@ fn strings_by_the_standard_library() {
     }
 }
 
-/// Document 01, "The part of RFC 9535", with one letter for each class of bytes.
+/// Document 01, "The part of RFC 9535", with positions, and with one letter for each class of bytes.
 const QUERIES: &[Rule] = &[
     ("query", &["$ steps"]),
     ("steps", &["", "blanks step steps"]),
@@ -143,12 +143,13 @@ const QUERIES: &[Rule] = &[
     ("dots", &[".", ". ."]),
     ("shorthand", &["*", "letter letters"]),
     ("letter", &["a", "é"]),
-    ("letters", &["", "letter letters", "1 letters"]),
+    ("letters", &["", "letter letters", "0 letters", "1 letters"]),
     ("brackets", &["[ blanks selector blanks ]"]),
-    ("selector", &["*", "' single '", "\" double \""]),
+    ("selector", &["*", "' single '", "\" double \"", "0", "1 digits"]),
+    ("digits", &["", "0 digits", "1 digits"]),
     ("single", &["", "common single", "\" single"]),
     ("double", &["", "common double", "' double"]),
-    ("common", &["letter", "1", "SP", "*", "$", ".", "[", "]"]),
+    ("common", &["letter", "0", "1", "SP", "*", "$", ".", "[", "]"]),
     ("blanks", &["", "SP blanks"]),
 ];
 
@@ -161,4 +162,5 @@ fn dead_query_byte(query: &[u8]) -> Option<usize> {
 fn queries() {
     dead_bytes_agree(QUERIES, b"$.*[]'\"a1 ", 6, dead_query_byte);
     dead_bytes_agree(QUERIES, b"$.[]'\xC3\xA9", 7, dead_query_byte);
+    dead_bytes_agree(QUERIES, b"$[]01 ", 7, dead_query_byte);
 }

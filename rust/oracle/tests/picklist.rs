@@ -29,7 +29,7 @@ fn the_query_ends_at_the_first_line_feed() {
 #[test]
 fn each_ground_that_can_reach_it() {
     prints(&[vec![b'$'; 1_025], b"\n7".to_vec()].concat(), "refused 1 1024\n");
-    prints(b"$[0]\n7", "refused 2 2\n");
+    prints(b"$[00]\n7", "refused 2 3\n");
     prints(format!("${}\n7", ".a".repeat(17)).as_bytes(), "refused 3 33\n");
     prints(b"$\n[1,]", "refused 5 3\n");
     prints(&[b"$\n".to_vec(), b"[".repeat(513)].concat(), "refused 6 512\n");

@@ -40,6 +40,11 @@ fn selected(step: &Step, record: &[u8], tree: &Tree, node: usize) -> Vec<usize> 
                 && tree.nodes[node].kind == Kind::Object
                 && tree.nodes[child].name_in(record) == Some(name)
         }
+        Selector::Position(position) => {
+            let children = (0..tree.nodes.len()).filter(|&other| is_child(tree, other, node));
+            tree.nodes[node].kind == Kind::Array
+                && children.enumerate().any(|(j, other)| j as u64 == *position && other == child)
+        }
     };
     (0..tree.nodes.len()).filter(is_taken).collect()
 }

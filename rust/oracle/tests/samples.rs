@@ -15,6 +15,9 @@ fn rows_that_pick_out() {
     picks_out("$..*", "[3,[4]]", &[(1, 2), (3, 6), (4, 5)], 0);
     picks_out("$ ['a' ]", r#"{"a":[]}"#, &[(5, 7)], 1);
     picks_out("$.lot", r#"{"x":"lot\":9}"}"#, &[], 0);
+    picks_out("$[2]", "[1,[2,3],4]", &[(9, 10)], 1);
+    picks_out("$..[0]", "[[7]]", &[(1, 4), (2, 3)], 0);
+    picks_out("$[0]", r#"{"0":1}"#, &[], 0);
 }
 
 #[test]
@@ -29,7 +32,7 @@ fn rows_that_are_refused() {
     for any in ANY {
         refused(b"", any, 2, 0);
         refused(b"$.a ", any, 2, 4);
-        refused(b"$[0]", any, 2, 2);
+        refused(b"$[00]", any, 2, 3);
     }
     refused(b"$", b"[1,]", 5, 3);
     refused(b"$", b"01", 5, 1);

@@ -12,6 +12,18 @@ const NAMES: [&str; 16] = [
 const LONG_NAMES: [&str; 6] =
     ["abcdefgh", "abcdefgi", "abcdefg", "abcdefghi", "xbcdefgh", "abcdefghabcdefghabcdefgh"];
 
+/// Positions that no array reaches, around the limits of numbers, with two that no query may have.
+const FAR_POSITIONS: [&str; 8] = [
+    "255",
+    "4294967295",
+    "4294967296",
+    "4294967297",
+    "9007199254740990",
+    "9007199254740991",
+    "9007199254740992",
+    "18446744073709551616",
+];
+
 /// A name of no query.
 const NO_QUERY_NAME: &str = "private notes";
 
@@ -93,7 +105,8 @@ fn step(random: &mut Random, names: Names, out: &mut Vec<u8>) {
     let deep = random.once_in(2);
     let name = random.one_of(names);
     let every = random.once_in(3);
-    if random.once_in(2) && (every || is_shorthand(name)) {
+    let positioned = !every && random.once_in(3);
+    if random.once_in(2) && !positioned && (every || is_shorthand(name)) {
         out.extend(if deep { &b".."[..] } else { b"." });
         out.extend(if every { b"*" } else { name.as_bytes() });
         return;
@@ -102,6 +115,8 @@ fn step(random: &mut Random, names: Names, out: &mut Vec<u8>) {
     blanks(random, out);
     if every {
         out.push(b'*');
+    } else if positioned {
+        position(random, out);
     } else {
         let quote = if name.contains('\'') || random.once_in(2) { b'"' } else { b'\'' };
         out.push(quote);
@@ -112,7 +127,17 @@ fn step(random: &mut Random, names: Names, out: &mut Vec<u8>) {
     out.push(b']');
 }
 
-/// A query of the grammar with this many steps.
+/// A position: mostly one of the first, which small arrays have.
+fn position(random: &mut Random, out: &mut Vec<u8>) {
+    if random.once_in(12) {
+        out.extend(random.one_of(&FAR_POSITIONS).as_bytes());
+    } else {
+        let most = *random.one_of(&[2, 2, 2, 4, 4, 40]);
+        out.extend(random.below(most).to_string().as_bytes());
+    }
+}
+
+/// A query of the grammar, or with a position too large for it, with this many steps.
 fn query_of(random: &mut Random, names: Names, steps: usize) -> Vec<u8> {
     let mut query = b"$".to_vec();
     for _ in 0..steps {

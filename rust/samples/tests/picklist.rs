@@ -6,6 +6,7 @@ use samples::picklist::{output, CASES};
 const BLOCKS: &[(&str, &str)] = &[
     ("the example of document 01", "matches 2\n1 12 13\n2 21 24\n"),
     ("a grower with two lots in one blend", "matches 3\n1 36 42\n2 49 55\n3 75 80\n"),
+    ("the third lot of the second table", "matches 1\n1 22 27\n"),
     ("no node", "matches 0\n"),
     ("no input", "refused 2 0\n"),
     ("a line feed alone", "refused 2 0\n"),
@@ -15,8 +16,8 @@ const BLOCKS: &[(&str, &str)] = &[
     ("line feeds in the record", "matches 2\n1 22 23\n2 38 49\n"),
     ("a line feed before the record", "matches 1\n1 1 2\n"),
     ("a carriage return behind the query", "refused 2 2\n"),
-    ("a position in the query", "refused 2 2\n"),
-    ("a query and a record that are both refused", "refused 2 2\n"),
+    ("a zero before a position", "refused 2 3\n"),
+    ("a query and a record that are both refused", "refused 2 3\n"),
     ("a comma before a closing bracket", "refused 5 3\n"),
     ("a torn record", "refused 5 23\n"),
     ("a byte order mark", "refused 5 0\n"),

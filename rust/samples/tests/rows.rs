@@ -34,7 +34,8 @@ fn runs() -> Vec<Run> {
 /// Query, record, numbers of the list; the four answers, and the list afterwards.
 type Row = (&'static str, &'static str, usize, &'static str, &'static str);
 
-/// The sample rows, in the order of document 01.
+/// The sample rows, in the order of document 01, with `$[00]` where it has `$[0]`, and then those of
+/// change request S-1.
 const ROWS: &[Row] = &[
     ("$", "7", 4, "0 0 1 0", " 0 1 rest 2"),
     ("$.M", r#"{"M":1,"M":2}"#, 5, "0 0 2 0", " 5 6 11 12 rest 1"),
@@ -45,20 +46,27 @@ const ROWS: &[Row] = &[
     ("$.lot", r#"{"x":"lot\":9}"}"#, 2, "0 0 0 0", " rest 2"),
     ("", "7", 2, "2 0 0 0", " rest 2"),
     ("$.a~32;", "7", 2, "2 4 0 0", " rest 2"),
-    ("$[0]", "7", 2, "2 2 0 0", " rest 2"),
+    ("$[00]", "7", 2, "2 3 0 0", " rest 2"),
     ("", "[1,]", 2, "2 0 0 0", " rest 2"),
     ("$.a~32;", "[1,]", 2, "2 4 0 0", " rest 2"),
-    ("$[0]", "[1,]", 2, "2 2 0 0", " rest 2"),
+    ("$[00]", "[1,]", 2, "2 3 0 0", " rest 2"),
     ("$", "[1,]", 2, "5 3 0 0", " rest 2"),
     ("$", "01", 2, "5 1 0 0", " rest 2"),
     ("$", "tru", 2, "5 3 0 0", " rest 2"),
     ("$", "", 2, "5 0 0 0", " rest 2"),
+    ("$[2]", "[1,[2,3],4]", 4, "0 0 1 1", " 9 10 rest 2"),
+    ("$..[0]", "[[7]]", 6, "0 0 2 0", " 1 4 2 3 rest 2"),
+    ("$[0]", r#"{"0":1}"#, 2, "0 0 0 0", " rest 2"),
 ];
 
 /// A row for each limit, both sides.
 const LIMITS: &[Row] = &[
     ("$~1021( ).a", r#"{"a":1}"#, 3, "0 0 1 0", " 5 6 rest 1"),
     ("$~1022( ).a", r#"{"a":1}"#, 3, "1 1024 0 0", " rest 3"),
+    ("$[9007199254740991]", "[[1,2],[3,4]]", 8, "0 0 0 1", " rest 8"),
+    ("$[9007199254740992]", "[[1,2],[3,4]]", 8, "2 17 0 0", " rest 8"),
+    ("$[4294967296]", "[[1,2],[3,4]]", 8, "0 0 0 1", " rest 8"),
+    ("$..[1]", "[[1,2],[3,4]]", 8, "0 0 3 0", " 4 5 7 12 10 11 rest 2"),
     ("$..a", r#"~511([){"a":7}~511(])"#, 4, "0 0 1 0", " 516 517 rest 2"),
     ("$..a", r#"~512([){"a":7}~512(])"#, 4, "6 512 0 0", " rest 4"),
     ("$..*", "~512([)", 2, "5 512 0 0", " rest 2"),
@@ -131,5 +139,5 @@ fn the_output_has_the_values() {
 
 #[test]
 fn the_number_of_cases() {
-    assert!(output(CASES).unwrap().ends_with("\n342 cases\n"));
+    assert!(output(CASES).unwrap().ends_with("\n395 cases\n"));
 }

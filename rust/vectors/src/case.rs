@@ -35,14 +35,10 @@ pub struct Reason {
 pub const REASONS: [Reason; 5] = [
     Reason { words: "a filter", stands_at: |rest| rest.starts_with('?') },
     Reason { words: "a slice", stands_at: begins_slice },
-    Reason { words: "a position in an array", stands_at: begins_number },
+    Reason { words: "a position counted from the end", stands_at: |rest| rest.starts_with('-') },
     Reason { words: "several selectors in one bracket", stands_at: |rest| rest.starts_with(',') },
     Reason { words: "an escape in a quoted name", stands_at: |rest| rest.starts_with('\\') },
 ];
-
-fn begins_number(rest: &str) -> bool {
-    rest.strip_prefix('-').unwrap_or(rest).starts_with(|c: char| c.is_ascii_digit())
-}
 
 fn begins_slice(rest: &str) -> bool {
     let number = rest.strip_prefix('-').unwrap_or(rest);

@@ -14,10 +14,19 @@
 //! # Ok::<(), woodcrock::Refusal>(())
 //! ```
 //!
-//! A query is `$` and then up to 16 steps: `.name`, `.*`, `['name']`, `["name"]` and `[*]` take from
-//! the node itself; with two dots, `..name`, `..*`, `..['name']` and `..[*]`, a step takes from the
-//! node and from every node below it. Each node is listed once, and the first bytes rise. Names are
-//! compared byte for byte as written between their quotes, and members that repeat a name all match.
+//! A query is `$` and then up to 16 steps: `.name`, `.*`, `['name']`, `["name"]`, `[*]` and `[2]` take
+//! from the node itself; with two dots, `..name`, `..*`, `..['name']`, `..[*]` and `..[2]`, a step takes
+//! from the node and from every node below it. Each node is listed once, and the first bytes rise.
+//! Names are compared byte for byte as written between their quotes, and members that repeat a name
+//! all match. A position is that of an element of an array, counted from 0, at most [`MAX_POSITION`];
+//! an object has none.
+//!
+//! ```
+//! let lots = br#"[["A-11", "A-12", "A-13"], ["B-3"]]"#;
+//! assert!(woodcrock::list(b"$[0][2]", lots)?.values().eq([&b"\"A-13\""[..]]));
+//! assert!(woodcrock::list(b"$..[0]", lots)?.ranges().eq([1..25, 2..8, 28..33]));
+//! # Ok::<(), woodcrock::Refusal>(())
+//! ```
 //!
 //! The calls are those of the static library `libwoodcrock_c.a`, which is proved to answer so for
 //! all bytes. Its C declarations ([`sys`]) owe it pointers of the stated lengths, an aligned list and
@@ -36,6 +45,8 @@ pub use sys::Words;
 pub const MAX_QUERY: usize = 1_024;
 /// The most steps of a query that is taken.
 pub const MAX_STEPS: usize = 16;
+/// The largest position that a query may ask for.
+pub const MAX_POSITION: u64 = 9_007_199_254_740_991;
 /// The most bytes of a record that is taken.
 pub const MAX_RECORD: usize = 16_777_216;
 /// The deepest level of nesting in a record that is taken.
@@ -80,8 +91,8 @@ impl Walk {
     ///
     /// let matches = Walk::Plain.list(b"$.*", b"[3,[4]]")?;
     /// assert!(matches.values().eq([&b"3"[..], b"[4]"]));
-    /// let refusal = Walk::Plain.list(b"$[0]", b"[3,[4]]").unwrap_err();
-    /// assert_eq!(refusal, Refusal { ground: Ground::QueryMalformed, place: 2 });
+    /// let refusal = Walk::Plain.list(b"$[00]", b"[3,[4]]").unwrap_err();
+    /// assert_eq!(refusal, Refusal { ground: Ground::QueryMalformed, place: 3 });
     /// # Ok::<(), Refusal>(())
     /// ```
     pub fn list<'record>(

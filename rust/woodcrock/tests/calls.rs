@@ -31,7 +31,8 @@ fn sample_rows() {
     assert_eq!(ranges("$.lot", r#"{"x":"lot\":9}"}"#), []);
     assert_eq!(refusal(b"", b"7"), (2, 0));
     assert_eq!(refusal(b"$.a ", b"7"), (2, 4));
-    assert_eq!(refusal(b"$[0]", b"7"), (2, 2));
+    assert_eq!(refusal(b"$[00]", b"7"), (2, 3));
+    assert_eq!(refusal(b"$[9007199254740992]", b"7"), (2, 17));
     assert_eq!(refusal(b"$", b"[1,]"), (5, 3));
     assert_eq!(refusal(b"$", b"01"), (5, 1));
     assert_eq!(refusal(b"$", b"tru"), (5, 3));

@@ -90,7 +90,7 @@ fn wrong_usage() {
 fn refusals_of_the_query() {
     let long = format!("$.{}", "a".repeat(1_023));
     fails(&[&long], b"7", 11, "the query has more than 1024 bytes");
-    fails(&["$[0]"], b"7", 12, "the query is malformed at byte 2\n  $[0]\n    ^");
+    fails(&["$[00]"], b"7", 12, "the query is malformed at byte 3\n  $[00]\n     ^");
     fails(&["$.é. b"], b"7", 12, "the query is malformed at byte 5\n  $.é. b\n      ^");
     fails(&["$.a."], b"7", 12, "the query is incomplete\n  $.a.\n      ^");
     fails(&["$\u{1}"], b"7", 12, "the query is malformed at byte 1");

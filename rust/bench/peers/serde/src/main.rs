@@ -8,7 +8,10 @@ use std::{env, fmt, fs};
 #[derive(Default)]
 struct Query {
     names: Vec<String>,
+    /// 0 for a step without one.
+    positions: Vec<usize>,
     stars: u32,
+    placed: u32,
     deep: u32,
     all: u32,
 }
@@ -16,22 +19,38 @@ struct Query {
 impl Query {
     fn add(&mut self, step: &str) {
         let bit = 1 << self.names.len();
-        let (is_deep, name) = match step.strip_prefix("..") {
-            Some(name) => (true, name),
-            None => (false, step.strip_prefix('.').expect("a step begins with a dot")),
+        let (is_deep, taken) = match step.strip_prefix("..") {
+            Some(taken) => (true, taken),
+            None => (false, step.strip_prefix('.').unwrap_or(step)),
         };
+        let position = taken.strip_prefix('[').and_then(|rest| rest.strip_suffix(']'));
         self.deep |= if is_deep { bit } else { 0 };
-        self.stars |= if name == "*" { bit } else { 0 };
+        self.stars |= if taken == "*" { bit } else { 0 };
+        self.placed |= if position.is_some() { bit } else { 0 };
         self.all |= bit;
-        self.names.push(name.to_string());
+        self.names.push(taken.to_string());
+        self.positions.push(position.map_or(0, |digits| digits.parse().expect("a number")));
     }
 
     fn taking_member(&self, marks: u32, key: &str) -> u32 {
         let mut taking = marks & self.stars;
         for (at, name) in self.names.iter().enumerate() {
             let bit = 1 << at;
-            if marks & !self.stars & bit != 0 && name == key {
+            if marks & !self.stars & !self.placed & bit != 0 && name == key {
                 taking |= bit;
+            }
+        }
+        taking
+    }
+
+    fn taking_element(&self, marks: u32, position: usize) -> u32 {
+        let mut taking = marks & self.stars;
+        if marks & self.placed != 0 {
+            for (at, wanted) in self.positions.iter().enumerate() {
+                let bit = 1 << at;
+                if marks & self.placed & bit != 0 && *wanted == position {
+                    taking |= bit;
+                }
             }
         }
         taking
@@ -117,10 +136,11 @@ impl<'de> Visitor<'de> for Below<'_> {
 
     fn visit_seq<A: SeqAccess<'de>>(self, mut elements: A) -> Result<u64, A::Error> {
         let Below { query, marks } = self;
-        let taking = marks & query.stars;
-        let inner = Below { query, marks: query.next(marks, taking) };
         let mut nodes = 0;
-        while let Some(below) = elements.next_element_seed(inner)? {
+        for position in 0.. {
+            let taking = query.taking_element(marks, position);
+            let inner = Below { query, marks: query.next(marks, taking) };
+            let Some(below) = elements.next_element_seed(inner)? else { break };
             nodes += query.picked(taking) + below;
         }
         Ok(nodes)
