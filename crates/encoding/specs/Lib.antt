@@ -7,6 +7,7 @@ pub mod ClassTable
 pub mod CodePoint
 pub mod CodePointLaws
 pub mod Decimal
+pub mod DecimalLaws
 pub mod Examples
 pub mod Prefix
 pub mod PrefixLaws

@@ -11,6 +11,7 @@ use borrow.Author.Tests.{leb-true, le-leb, ltb-true, ltb-false, eqb-true, eqb-fa
 use Rattle.encoding.specs.Bytes.{In, putIn}
 use Rattle.encoding.specs.BytesLaws.{byte-at, inside, make, from-low, to-high}
 use Rattle.encoding.specs.Decimal.{readOn}
+use Rattle.encoding.specs.DecimalLaws.{read-from}
 use Rattle.query.specs.Grammar as G
 use Rattle.query.specs.Grammar.{Position, putPosition, positionOf, maxPosition}
 use Rattle.query.specs.Machine as M
@@ -135,12 +136,6 @@ reads-behind v n b s f = go (step (at closing) b) refl (behind v b)
         note-position v n b (reading k (suc n) s) ∙ sym (ap (note (position v) 0 0) (kept closing k n b s e (x .keeps)))
 
 -- the digits of a position
-
--- more of them stand for no less
-read-from : (v : ℕ) (s : List ℕ) → v ≤ readOn v s
-unfolding readOn
-read-from v [] = omega arith
-read-from v (b ∷ s) = omega (arith, read-from (v * 10 + (b - 0x30)) s)
 
 reads-digits : (ds : List (In 0x30 0x39)) (v n : ℕ) (u : List ℕ) → 0 < v → readOn v (putIn ds []) ≤ maxPosition →
     reading (inPosition v) n (putIn ds u) ≡ reading (inPosition (readOn v (putIn ds []))) (n + length (putIn ds [])) u

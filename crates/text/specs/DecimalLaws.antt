@@ -10,6 +10,7 @@ use borrow.Author.Tests.{ltb-true, ltb-false}
 use lib.Dec.{ltb}
 use lib.ListN.{length, getD, length-append, List·getD-append}
 use Rattle.encoding.specs.Decimal.{readOn, valueOf}
+use Rattle.encoding.specs.DecimalLaws.{read-append}
 use Rattle.text.specs.Decimal.{digit, digitsOf, decimal}
 
 -- one step of the digits
@@ -68,11 +69,6 @@ pub decimal-more : (n : ℕ) → 10 ≤ n → decimal n ≡ decimal (n / 10) ++ 
 unfolding decimal
 decimal-more n h =
     lead-some n n h ∙ ap (λ (s : List ℕ). s ++ (digit (n % 10) ∷ [])) (enough n (suc (n / 10)) (n / 10) (omega arith) (omega arith))
-
-read-append : (n : ℕ) (s t : List ℕ) → readOn n (s ++ t) ≡ readOn (readOn n s) t
-unfolding readOn
-read-append n [] t = refl
-read-append n (b ∷ s) t = read-append (n * 10 + (b - 0x30)) s t
 
 -- read back, it is the number
 pub decimal-value : (n : ℕ) → valueOf (decimal n) ≡ n
