@@ -1,5 +1,5 @@
 -- The bits that the functions on marks set, one by one. Assumes nothing.
-use mathlib.Core.Path.{_≡_, refl, sym, ap, _∙_}
+use mathlib.Core.Path.{_≡_, refl, sym, ap, ap₂, _∙_}
 use mathlib.Core.Bool.{Bool, true, false, _&&_, _||_, or-false, and-true, and-false}
 use mathlib.Core.List.{List}
 use mathlib.Core.Logic.{⊎-elim}
@@ -8,15 +8,13 @@ use native.Mathlib.Omega.{arith}
 use borrow.Author.Tests.{lt-ltb, le-ltb, eq-eqb, ne-eqb, eqb-true, eqb-false}
 use lib.Bits.{bitAnd}
 use lib.Dec.{ltb, eqb}
-use lib.ListN.{length, getD}
 use lib.Seq.{slice}
 use Rattle.bits.specs.Bits.{bit, Lowest}
 use Rattle.bits.specs.Laws.{lt-or-ge, bit-zero, bit-test, bit-shr}
 use Rattle.encoding.specs.Bytes.{sameBytes}
-use Rattle.marks.specs.Advances.{Fits, Bounds, namedHit}
-use Rattle.query.specs.Verdict.{maxSteps}
-use Rattle.query_parser.specs.declared.compiled.Compiled.{Compiled}
+use Rattle.query_parser.specs.Holds.{nameStart, nameEnd}
 use Rattle.select.specs.Ways.{frameIf}
+use Rattle.marks.specs.Advances.{isName}
 
 pub frames-same : (a m k : ℕ) → a ≡ m → k ≡ frameIf (eqb a m) k
 unfolding frameIf
@@ -27,31 +25,20 @@ unfolding frameIf
 frames-more a m k e = sym (ap (λ (b : Bool). frameIf b k) (ne-eqb a m e))
 
 -- one mark, and what is asked only where it is on
-module _ (m i x : ℕ) (asked : Bool) (shift : x ≡ bitAnd (m / 2 ^ i) 1) where
-  pub hit-off : (x ≡ 1 → ⊥) → false ≡ (bit i m && asked)
-  hit-off f = sym (ap (λ (b : Bool). b && asked) (sym (bit-test m i) ∙ ap (λ (y : ℕ). eqb y 1) (sym shift) ∙ ne-eqb x 1 f))
+module _ (m i x : ℕ) (shift : x ≡ bitAnd (m / 2 ^ i) 1) where
+  pub mark-on : x ≡ 1 → bit i m ≡ true
+  mark-on f = sym (bit-test m i) ∙ ap (λ (y : ℕ). eqb y 1) (sym shift) ∙ eq-eqb x 1 f
 
-  pub hit-on : x ≡ 1 → asked ≡ (bit i m && asked)
-  hit-on f = sym (ap (λ (b : Bool). b && asked) (sym (bit-test m i) ∙ ap (λ (y : ℕ). eqb y 1) (sym shift) ∙ eq-eqb x 1 f))
+  pub hit-off : (asked : Bool) → (x ≡ 1 → ⊥) → false ≡ (bit i m && asked)
+  hit-off asked f = sym (ap (λ (b : Bool). b && asked) (sym (bit-test m i) ∙ ap (λ (y : ℕ). eqb y 1) (sym shift) ∙ ne-eqb x 1 f))
 
--- mark i is on, and the name between the bounds at i is this one
-unfoldable pub boundHit : (q starts ends : List ℕ) (marks : ℕ) (name : List ℕ) → ℕ → Bool
-unfolding bit sameBytes
-boundHit q starts ends m name i = bit i m && sameBytes (slice (getD starts i 0) (getD ends i 0) q) name
+  pub hit-on : (asked : Bool) → x ≡ 1 → asked ≡ (bit i m && asked)
+  hit-on asked f = sym (ap (λ (b : Bool). b && asked) (mark-on f))
 
--- the bounds beside a compiled query are those of its names
-module _ {c : Compiled} {starts ends : List ℕ} (b : Bounds c starts ends) where
-  module _ {q : List ℕ} (f : Fits q c) (i : ℕ) (l : i < maxSteps) where
-    pub bounds-order : getD starts i 0 ≤ getD ends i 0
-    bounds-order = rw (b .starts-are, b .ends-are) (f .order i l)
-
-    pub bounds-within : getD ends i 0 ≤ length q
-    bounds-within = rw (b .ends-are) (f .within i l)
-
-  pub bounds-named : (q : List ℕ) (m : ℕ) (name : List ℕ) (n r : ℕ) → ((i : ℕ) → bit i r ≡ (ltb i n && boundHit q starts ends m name i))
-      → (i : ℕ) → bit i r ≡ (ltb i n && namedHit q c m name i)
-  unfolding namedHit boundHit
-  bounds-named q m name n r f i = rw (b .starts-are, b .ends-are) at (f i)
+-- a name by its bounds
+pub by-bounds : (q name : List ℕ) (w from to : ℕ) → from ≡ nameStart w → to ≡ nameEnd w → sameBytes (slice from to q) name ≡ isName q w name
+unfolding isName
+by-bounds q name w from to a b = ap₂ (λ (x y : ℕ). sameBytes (slice x y q) name) a b
 
 -- the bits below i are what f says of the steps, and none is on from i
 pub record Upto (f : ℕ → Bool) (count h i : ℕ) : Type 0 where
@@ -94,15 +81,14 @@ module _ (f : ℕ → Bool) (count : ℕ) where
     upto-off off = by (λ j k. ap (λ (b : Bool). ltb j count && b) (off j k) ∙ and-false (ltb j count))
 
 -- a step whose mark is off takes nothing: those below the lowest mark, and those from i on where no mark is left
-module _ (q starts ends : List ℕ) (m : ℕ) (name : List ℕ) where
-  off-hit : (j : ℕ) → bit j m ≡ false → boundHit q starts ends m name j ≡ false
-  unfolding boundHit
-  off-hit j e = ap (λ (b : Bool). b && sameBytes (slice (getD starts j 0) (getD ends j 0) q) name) e
+module _ (m : ℕ) (asked : ℕ → Bool) where
+  off-hit : (j : ℕ) → bit j m ≡ false → (bit j m && asked j) ≡ false
+  off-hit j e = ap (λ (b : Bool). b && asked j) e
 
-  pub below-lowest : (i : ℕ) → Lowest 64 m i → (j : ℕ) → j < i → boundHit q starts ends m name j ≡ false
+  pub below-lowest : (i : ℕ) → Lowest 64 m i → (j : ℕ) → j < i → (bit j m && asked j) ≡ false
   below-lowest i x j l = off-hit j (x .none-below j l)
 
-  pub none-left : (i : ℕ) → m / 2 ^ i ≡ 0 → (j : ℕ) → i ≤ j → boundHit q starts ends m name j ≡ false
+  pub none-left : (i : ℕ) → m / 2 ^ i ≡ 0 → (j : ℕ) → i ≤ j → (bit j m && asked j) ≡ false
   none-left i e j l =
       let z : i + (j - i) ≡ j = omega arith in
       off-hit j (ap (λ (k : ℕ). bit k m) (sym z) ∙ sym (bit-shr i (j - i) m) ∙ ap (bit (j - i)) e ∙ bit-zero (j - i))

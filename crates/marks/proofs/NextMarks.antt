@@ -1,6 +1,6 @@
 -- The marks whose next step takes a child, and the child's marks: bit by bit, from what the compiled query holds. Assumes nothing.
 use mathlib.Core.Path.{_≡_, refl, sym, ap, ap₂, _∙_}
-use mathlib.Core.Bool.{Bool, true, false, _&&_, _||_, and-false, and-assoc, and-comm, or-false}
+use mathlib.Core.Bool.{Bool, true, false, _&&_, _||_, and-false, and-assoc, and-comm, and-eq-true-iff, or-false}
 use mathlib.Core.List.{List}
 use mathlib.Core.Logic.{⊎-elim}
 use mathlib.Core.Option.{Option, some, none}
@@ -16,31 +16,36 @@ use Rattle.bits.specs.Bits.{bit, number}
 use Rattle.bits.specs.Laws.{lt-or-ge, bit-and, bit-or, bit-zero, bit-shl, bit-test, number-of, shifted}
 use Rattle.bits.specs.Truth.{truth}
 use Rattle.encoding.specs.Bytes.{sameBytes}
-use Rattle.query_parser.specs.Holds.{Holds, everyAt, namedAt, nameAt}
+use Rattle.query_parser.specs.Holds.{Holds, everyAt, namedAt, positionedAt, nameAt, positionAt}
 use Rattle.query.specs.Steps as S
 use Rattle.query.specs.Steps.{Step, Selector, isDeep}
 use Rattle.query.specs.StepsLaws.{no-step}
-use Rattle.query_parser.specs.declared.compiled.Compiled.{Compiled}
+use Rattle.query_parser.specs.declared.compiled.Kinds.{Kinds}
 use Rattle.select.specs.Nodes.{Label, member, element}
 use Rattle.select.specs.MarksStep.{stepHits}
 use Rattle.select.specs.Ways.{hits}
 use Rattle.automaton.specs.State.{nextMark, nextMarks, pickAt, nextPicked}
-use Rattle.marks.specs.Advances.{namedHit, LabelIs, by-name, by-position, Taken, Advances}
+use Rattle.marks.specs.Advances.{isName, nameIs, positionIs, Chosen, labelBy, Taken, Advances}
 
 -- what takes an element, and what takes a member
-hits-element : (o : Option Step) (j : ℕ) → everyAt o ≡ stepHits o (element j)
+
+hits-element : (j : ℕ) (o : Option Step) → (everyAt o || (positionedAt o && eqb (positionAt o) j)) ≡ stepHits o (element j)
 unfolding stepHits hits
-hits-element none j = refl
-hits-element (some s) j = go (s .selector)
+hits-element j none = refl
+hits-element j (some s) = go (s .selector)
   where
-    go : (sel : Selector) → everyAt (some (record { deep = s .deep; selector = sel })) ≡ hits sel (element j)
+    by : Selector → Option Step
+    by sel = some (record { deep = s .deep; selector = sel })
+
+    go : (sel : Selector) → (everyAt (by sel) || (positionedAt (by sel) && eqb (positionAt (by sel)) j)) ≡ hits sel (element j)
     go (S.name w) = refl
     go S.every = refl
+    go (S.position i) = refl
 
-hits-member : (o : Option Step) (w : List ℕ) → (everyAt o || (namedAt o && sameBytes (nameAt o) w)) ≡ stepHits o (member w)
+hits-member : (w : List ℕ) (o : Option Step) → (everyAt o || (namedAt o && sameBytes (nameAt o) w)) ≡ stepHits o (member w)
 unfolding stepHits hits
-hits-member none w = refl
-hits-member (some s) w = go (s .selector)
+hits-member w none = refl
+hits-member w (some s) = go (s .selector)
   where
     by : Selector → Option Step
     by sel = some (record { deep = s .deep; selector = sel })
@@ -48,76 +53,102 @@ hits-member (some s) w = go (s .selector)
     go : (sel : Selector) → (everyAt (by sel) || (namedAt (by sel) && sameBytes (nameAt (by sel)) w)) ≡ hits sel (member w)
     go (S.name v) = refl
     go S.every = refl
+    go (S.position i) = refl
 
-module _ (q : List ℕ) (c : Compiled) (m : ℕ) (name : List ℕ) where
-  pub taken-element : (o : Bool) → o ≡ false → Taken q c m name o (bitAnd m (c .every))
-  taken-element o e = rw e (record { taken = λ x h l i. go x h l i })
+-- a label that is taken by `*`, and by those steps of one kind that pass a test
+module _ {q : List ℕ} {x : List Step} {k : Kinds} {operands : List ℕ} (h : Holds q x k operands) (m mask : ℕ) (l : Label)
+    (kind test : Option Step → Bool) (no-kind : kind none ≡ false) (masked : (i : ℕ) → bit i mask ≡ kind (getElem? x i))
+    (hit : (o : Option Step) → (everyAt o || (kind o && test o)) ≡ stepHits o l) where
+  by-either : (i : ℕ) (b : Bool) → b ≡ (bit i m && (kind (getElem? x i) && test (getElem? x i)))
+      → (bit i (bitAnd m (k .every)) || b) ≡ (bit i m && stepHits (getElem? x i) l)
+  by-either i b e =
+      let o = getElem? x i in
+      ap₂ (λ (a b : Bool). a || b) (bit-and i m (k .every) ∙ ap (λ (b : Bool). bit i m && b) (h .every i)) e
+      ∙ truth 4 (λ a b d e. (a && b) || (a && (d && e))) (λ a b d e. a && (b || (d && e))) tt (bit i m) (everyAt o) (kind o) (test o)
+      ∙ ap (λ (b : Bool). bit i m && b) (hit o)
+
+  -- no mark of a step of that kind is on
+  by-every : bitAnd m mask ≡ 0 → (i : ℕ) → bit i (bitAnd m (k .every)) ≡ (bit i m && stepHits (getElem? x i) l)
+  by-every z i =
+      let o = getElem? x i in
+      let off : (bit i m && kind o) ≡ false =
+      ap (λ (b : Bool). bit i m && b) (sym (masked i)) ∙ sym (bit-and i m mask) ∙ ap (bit i) z ∙ bit-zero i in
+      sym (or-false (bit i (bitAnd m (k .every))))
+      ∙ by-either i false (sym (sym (and-assoc (bit i m) (kind o) (test o)) ∙ ap (λ (b : Bool). b && test o) off))
+
+  -- the steps of that kind are tested
+  by-test : (f : ℕ → Bool) (r : ℕ) → ((i : ℕ) → bit i mask ≡ true → f i ≡ test (getElem? x i)) → Chosen (k .count) (bitAnd m mask) f r
+      → (i : ℕ) → bit i (bitOr (bitAnd m (k .every)) r) ≡ (bit i m && stepHits (getElem? x i) l)
+  by-test f r tests chosen i =
+      bit-or i (bitAnd m (k .every)) r ∙ by-either i (bit i r) (chosen i ∙ ⊎-elim inside outside (lt-or-ge i (k .count)))
     where
-      go : (x : List Step) → Holds q x c → (l : Label) → LabelIs name false l → (i : ℕ)
-          → bit i (bitAnd m (c .every)) ≡ (bit i m && stepHits (getElem? x i) l)
-      go x h l (by-position j) i = bit-and i m (c .every) ∙ ap (λ (b : Bool). bit i m && b) (h .every i ∙ hits-element (getElem? x i) j)
+      tested : (b : Bool) → bit i mask ≡ b → (b && f i) ≡ (b && test (getElem? x i))
+      tested true e = tests i e
+      tested false e = refl
 
-  -- no mark of a step with a name is on
-  pub taken-every : (o : Bool) → o ≡ true → bitAnd m (c .named) ≡ 0 → Taken q c m name o (bitAnd m (c .every))
-  taken-every o e z = rw e (record { taken = λ x h l i. go x h l i })
-    where
-      go : (x : List Step) → Holds q x c → (l : Label) → LabelIs name true l → (i : ℕ)
-          → bit i (bitAnd m (c .every)) ≡ (bit i m && stepHits (getElem? x i) l)
-      go x h l by-name i =
-          let none-on : (bit i m && namedAt (getElem? x i)) ≡ false =
-          ap (λ (b : Bool). bit i m && b) (sym (h .named i)) ∙ sym (bit-and i m (c .named)) ∙ ap (bit i) z ∙ bit-zero i in
-          let same = sameBytes (nameAt (getElem? x i)) name in
-          bit-and i m (c .every)
-          ∙ ap (λ (b : Bool). bit i m && b) (h .every i)
-          ∙ sym (or-false (bit i m && everyAt (getElem? x i)))
-          ∙ ap (λ (b : Bool). (bit i m && everyAt (getElem? x i)) || b) (sym (ap (λ (b : Bool). b && same) none-on))
-          ∙ truth 4 (λ a b d e. (a && b) || ((a && d) && e)) (λ a b d e. a && (b || (d && e))) tt
-          (bit i m) (everyAt (getElem? x i)) (namedAt (getElem? x i)) same
-          ∙ ap (λ (b : Bool). bit i m && b) (hits-member (getElem? x i) name)
+      inside : i < k .count
+          → (ltb i (k .count) && (bit i (bitAnd m mask) && f i)) ≡ (bit i m && (kind (getElem? x i) && test (getElem? x i)))
+      inside n =
+          ap (λ (b : Bool). b && (bit i (bitAnd m mask) && f i)) (lt-ltb i (k .count) n)
+          ∙ ap (λ (b : Bool). b && f i) (bit-and i m mask)
+          ∙ and-assoc (bit i m) (bit i mask) (f i)
+          ∙ ap (λ (b : Bool). bit i m && b) (tested (bit i mask) refl ∙ ap (λ (b : Bool). b && test (getElem? x i)) (masked i))
 
-  -- the names of the others are compared
-  pub taken-named : (o : Bool) (r : ℕ) → o ≡ true → ((i : ℕ) → bit i r ≡ (ltb i (c .count) && namedHit q c (bitAnd m (c .named)) name i))
-      → Taken q c m name o (bitOr (bitAnd m (c .every)) r)
-  unfolding namedHit
-  taken-named o r e f = rw e (record { taken = λ x h l i. go x h l i })
-    where
-      hit-by : List Step → ℕ → Bool
-      hit-by x i = namedAt (getElem? x i) && sameBytes (nameAt (getElem? x i)) name
+      outside : k .count ≤ i
+          → (ltb i (k .count) && (bit i (bitAnd m mask) && f i)) ≡ (bit i m && (kind (getElem? x i) && test (getElem? x i)))
+      outside n =
+          let none-there : kind (getElem? x i) ≡ false = ap kind (no-step x i (omega (arith, h .count))) ∙ no-kind in
+          ap (λ (b : Bool). b && (bit i (bitAnd m mask) && f i)) (le-ltb i (k .count) n)
+          ∙ sym (ap (λ (b : Bool). bit i m && (b && test (getElem? x i))) none-there ∙ and-false (bit i m))
 
-      named-is : (x : List Step) → Holds q x c → (i : ℕ) → bit i r ≡ (bit i m && hit-by x i)
-      named-is x h i = f i ∙ ⊎-elim inside outside (lt-or-ge i (c .count))
-        where
-          inside : i < c .count → (ltb i (c .count) && namedHit q c (bitAnd m (c .named)) name i) ≡ (bit i m && hit-by x i)
-          inside l =
-              ap (λ (b : Bool). b && namedHit q c (bitAnd m (c .named)) name i) (lt-ltb i (c .count) l)
-              ∙ ap₂ (λ (a : Bool) (w : List ℕ). a && sameBytes w name)
-              (bit-and i m (c .named) ∙ ap (λ (b : Bool). bit i m && b) (h .named i))
-              (h .name i (omega (arith, h .count, h .few)))
-              ∙ and-assoc (bit i m) (namedAt (getElem? x i)) (sameBytes (nameAt (getElem? x i)) name)
+module _ (q : List ℕ) (k : Kinds) (operands : List ℕ) (m : ℕ) where
+  module _ (name : List ℕ) where
+    abbrev same : Option Step → Bool
+    same o = sameBytes (nameAt o) name
 
-          outside : c .count ≤ i → (ltb i (c .count) && namedHit q c (bitAnd m (c .named)) name i) ≡ (bit i m && hit-by x i)
-          outside l =
-              ap (λ (b : Bool). b && namedHit q c (bitAnd m (c .named)) name i) (le-ltb i (c .count) l)
-              ∙ sym (and-false (bit i m))
-              ∙ ap (λ (o : Option Step). bit i m && (namedAt o && sameBytes (nameAt o) name))
-              (sym (no-step x i (omega (arith, h .count))))
+    pub member-every : bitAnd m (k .named) ≡ 0 → Taken q k operands m (member name) (bitAnd m (k .every))
+    member-every z =
+        record { taken = λ x h. by-every h m (k .named) (member name) namedAt same refl (h .named) (hits-member name) z }
 
-      go : (x : List Step) → Holds q x c → (l : Label) → LabelIs name true l → (i : ℕ)
-          → bit i (bitOr (bitAnd m (c .every)) r) ≡ (bit i m && stepHits (getElem? x i) l)
-      go x h l by-name i =
-          bit-or i (bitAnd m (c .every)) r
-          ∙ ap₂ (λ (a b : Bool). a || b) (bit-and i m (c .every) ∙ ap (λ (b : Bool). bit i m && b) (h .every i)) (named-is x h i)
-          ∙ truth 4 (λ a b d e. (a && b) || (a && (d && e))) (λ a b d e. a && (b || (d && e))) tt
-          (bit i m) (everyAt (getElem? x i)) (namedAt (getElem? x i)) (sameBytes (nameAt (getElem? x i)) name)
-          ∙ ap (λ (b : Bool). bit i m && b) (hits-member (getElem? x i) name)
+    pub member-named : (r : ℕ) → Chosen (k .count) (bitAnd m (k .named)) (nameIs q operands name) r
+        → Taken q k operands m (member name) (bitOr (bitAnd m (k .every)) r)
+    unfolding nameIs isName
+    member-named r chosen =
+        record {
+          taken = λ x h.
+              by-test h m (k .named) (member name) namedAt same refl (h .named) (hits-member name) (nameIs q operands name) r
+              (λ i on. ap (λ (w : List ℕ). sameBytes w name) (h .name i on)) chosen;
+        }
+
+  module _ (j : ℕ) where
+    abbrev there : Option Step → Bool
+    there o = eqb (positionAt o) j
+
+    pub element-every : bitAnd m (k .positioned) ≡ 0 → Taken q k operands m (element j) (bitAnd m (k .every))
+    element-every z =
+        record { taken = λ x h. by-every h m (k .positioned) (element j) positionedAt there refl (h .positioned) (hits-element j) z }
+
+    pub element-positioned : (r : ℕ) → Chosen (k .count) (bitAnd m (k .positioned)) (positionIs operands j) r
+        → Taken q k operands m (element j) (bitOr (bitAnd m (k .every)) r)
+    unfolding positionIs
+    element-positioned r chosen =
+        record {
+          taken = λ x h.
+              by-test h m (k .positioned) (element j) positionedAt there refl (h .positioned) (hits-element j) (positionIs operands j) r
+              (λ i on. ap (λ (w : ℕ). eqb w j) (h .position i on)) chosen;
+        }
+
+-- marks of steps of one kind are among the marks of that kind
+pub live-kind : (m mask i : ℕ) → bit i (bitAnd m mask) ≡ true → bit i mask ≡ true
+live-kind m mask i e = and-eq-true-iff (bit i m) (bit i mask) .0 (sym (bit-and i m mask) ∙ e) .1
 
 -- no steps: no marks, and no child is picked out
-pub advances-none : (q : List ℕ) (c : Compiled) (m : ℕ) (name : List ℕ) (o : Bool) → c .count ≡ 0 → Advances q c m name o 0 false
+pub advances-none : (q : List ℕ) (k : Kinds) (operands : List ℕ) (m : ℕ) (l : Label) → k .count ≡ 0 → Advances q k operands m l 0 false
 unfolding nextMarks number nextPicked pickAt
-advances-none q c m name o e =
+advances-none q k operands m l e =
     record {
-      marks-are = λ x h l i. sym (ap (λ (n : ℕ). number n (nextMark x m l)) (sym (h .count) ∙ e));
-      picked-is = λ x h l i. sym (ap (pickAt x m l) (sym (h .count) ∙ e));
+      marks-are = λ x h. sym (ap (λ (n : ℕ). number n (nextMark x m l)) (sym (h .count) ∙ e));
+      picked-is = λ x h. sym (ap (pickAt x m l) (sym (h .count) ∙ e));
     }
 
 -- the mask of n bits
@@ -130,48 +161,56 @@ mask-positive n h = rw (mask-is n h) (pow-pos n)
 pub mask-fits : (n : ℕ) → n ≤ 16 → 1 * 2 ^ n % 2 ^ 32 - 1 < 2 ^ 16
 mask-fits n h = rw (mask-is n h) (omega (arith, pow-pos n, pow-mono {i = n} {j = 16} h))
 
-module _ (q : List ℕ) (c : Compiled) (m : ℕ) (name : List ℕ) (o : Bool) (t : ℕ) (got : Taken q c m name o t)
-    (few : c .count ≤ 16) (some-steps : c .count ≡ 0 → ⊥) where
+module _ (k : Kinds) (m t : ℕ) (few : k .count ≤ 16) (some-steps : k .count ≡ 0 → ⊥) where
   -- the marks that go one step on and those that stay, before the mask
   abbrev unmasked : ℕ
-  unmasked = bitOr (t * 2 ^ 1 % 2 ^ 16) (bitAnd m (c .deep))
+  unmasked = bitOr (t * 2 ^ 1 % 2 ^ 16) (bitAnd m (k .deep))
 
-  module _ (x : List Step) (h : Holds q x c) (l : Label) (w : LabelIs name o l) where
-    kept : (i : ℕ) → bit i (bitAnd m (c .deep)) ≡ (isDeep (getElem? x i) && bit i m)
+  module _ (q operands : List ℕ) (l : Label) (got : Taken q k operands m l t) (x : List Step) (h : Holds q x k operands) where
+    kept : (i : ℕ) → bit i (bitAnd m (k .deep)) ≡ (isDeep (getElem? x i) && bit i m)
     kept i =
-        bit-and i m (c .deep)
+        bit-and i m (k .deep)
         ∙ ap (λ (b : Bool). bit i m && b) (h .deep i)
         ∙ and-comm (bit i m) (isDeep (getElem? x i))
 
     moved : (i : ℕ) → i < 16 → bit i unmasked ≡ (shifted 1 (λ j. bit j t) i || (isDeep (getElem? x i) && bit i m))
-    moved i k = bit-or i (t * 2 ^ 1 % 2 ^ 16) (bitAnd m (c .deep)) ∙ ap₂ (λ (a b : Bool). a || b) (bit-shl 16 1 i t k) (kept i)
+    moved i n = bit-or i (t * 2 ^ 1 % 2 ^ 16) (bitAnd m (k .deep)) ∙ ap₂ (λ (a b : Bool). a || b) (bit-shl 16 1 i t n) (kept i)
 
     next-bit : (i : ℕ) → i < length x → bit i unmasked ≡ nextMark x m l i
     unfolding nextMark shifted
-    next-bit zero k = moved 0 (omega arith)
-    next-bit (suc i) k =
-        moved (suc i) (omega (arith, h .few))
+    next-bit zero n = moved 0 (omega arith)
+    next-bit (suc i) n =
+        moved (suc i) (omega (arith, h .count))
         ∙ ap (λ (b : Bool). b || (isDeep (getElem? x (suc i)) && bit (suc i) m))
-        (got .taken x h l w i ∙ and-comm (bit i m) (stepHits (getElem? x i) l))
+        (got .taken x h i ∙ and-comm (bit i m) (stepHits (getElem? x i) l))
 
-    marks-next : bitAnd unmasked (1 * 2 ^ c .count % 2 ^ 32 - 1) ≡ nextMarks x m l
+    marks-next : bitAnd unmasked (1 * 2 ^ k .count % 2 ^ 32 - 1) ≡ nextMarks x m l
     unfolding nextMarks
     marks-next =
-        ap (λ (n : ℕ). bitAnd unmasked (n - 1)) (mask-is (c .count) few)
-        ∙ and-mask unmasked (c .count)
+        ap (λ (n : ℕ). bitAnd unmasked (n - 1)) (mask-is (k .count) few)
+        ∙ and-mask unmasked (k .count)
         ∙ ap (λ (n : ℕ). unmasked % 2 ^ n) (h .count)
         ∙ number-of (length x) unmasked (nextMark x m l) next-bit
 
-    picked-next : eqb (bitAnd (t / 2 ^ (c .count - 1)) 1) 1 ≡ nextPicked x m l
+    picked-next : eqb (bitAnd (t / 2 ^ (k .count - 1)) 1) 1 ≡ nextPicked x m l
     unfolding nextPicked pickAt
-    picked-next = bit-test t (c .count - 1) ∙ got .taken x h l w (c .count - 1) ∙ go (length x) (h .count)
+    picked-next = bit-test t (k .count - 1) ∙ got .taken x h (k .count - 1) ∙ go (length x) (h .count)
       where
-        go : (n : ℕ) → c .count ≡ n → (bit (c .count - 1) m && stepHits (getElem? x (c .count - 1)) l) ≡ pickAt x m l n
+        go : (n : ℕ) → k .count ≡ n → (bit (k .count - 1) m && stepHits (getElem? x (k .count - 1)) l) ≡ pickAt x m l n
         go zero e = absurd (some-steps e)
-        go (suc k) e =
-            let last : c .count - 1 ≡ k = omega arith in
-            ap (λ (i : ℕ). bit i m && stepHits (getElem? x i) l) last ∙ and-comm (bit k m) (stepHits (getElem? x k) l)
+        go (suc n) e =
+            let last : k .count - 1 ≡ n = omega arith in
+            ap (λ (i : ℕ). bit i m && stepHits (getElem? x i) l) last ∙ and-comm (bit n m) (stepHits (getElem? x n) l)
 
-  pub advances :
-      Advances q c m name o (bitAnd unmasked (1 * 2 ^ c .count % 2 ^ 32 - 1)) (eqb (bitAnd (t / 2 ^ (c .count - 1)) 1) 1)
-  advances = record { marks-are = λ x h l w. marks-next x h l w; picked-is = λ x h l w. picked-next x h l w }
+  pub advances : (q operands : List ℕ) (l : Label) → Taken q k operands m l t
+      → Advances q k operands m l (bitAnd unmasked (1 * 2 ^ k .count % 2 ^ 32 - 1)) (eqb (bitAnd (t / 2 ^ (k .count - 1)) 1) 1)
+  advances q operands l got =
+      record { marks-are = λ x h. marks-next q operands l got x h; picked-is = λ x h. picked-next q operands l got x h }
+
+-- the label of a child, by what it is a child of
+module _ {q : List ℕ} {k : Kinds} {operands : List ℕ} {m : ℕ} {marks : ℕ} {o picked : Bool} (name : List ℕ) (j : ℕ) where
+  pub of-object : o ≡ true → Advances q k operands m (member name) marks picked → Advances q k operands m (labelBy o name j) marks picked
+  of-object e h = rw e h
+
+  pub of-array : o ≡ false → Advances q k operands m (element j) marks picked → Advances q k operands m (labelBy o name j) marks picked
+  of-array e h = rw e h

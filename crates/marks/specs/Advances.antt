@@ -2,47 +2,47 @@
 use mathlib.Core.Path.{_≡_}
 use mathlib.Core.List.{List}
 use mathlib.Core.Bool.{Bool, true, false, _&&_}
-use Prim.Native.Nat.{ℕ, _≤_, _<_}
-use lib.ListN.{length, getD, getElem?}
+use Prim.Native.Nat.{ℕ}
+use lib.Dec.{ltb, eqb}
+use lib.ListN.{getD, getElem?}
 use lib.Seq.{slice}
 use Rattle.bits.specs.Bits.{bit}
 use Rattle.encoding.specs.Bytes.{sameBytes}
-use Rattle.query_parser.specs.Holds.{Holds}
+use Rattle.query_parser.specs.Holds.{Holds, nameStart, nameEnd}
 use Rattle.query.specs.Steps.{Step}
-use Rattle.query.specs.Verdict.{maxSteps}
-use Rattle.query_parser.specs.declared.compiled.Compiled.{Compiled}
+use Rattle.query_parser.specs.declared.compiled.Kinds.{Kinds}
 use Rattle.select.specs.Nodes.{Label, member, element}
 use Rattle.select.specs.MarksStep.{stepHits}
 use Rattle.automaton.specs.State.{nextMarks, nextPicked}
 
--- the names of a compiled query lie in the query
-pub record Fits (q : List ℕ) (c : Compiled) : Type 0 where
-  pub few : c .count ≤ maxSteps
-  pub starts-length : length (c .starts) ≡ maxSteps
-  pub ends-length : length (c .ends) ≡ maxSteps
-  pub order : (i : ℕ) → i < maxSteps → getD (c .starts) i 0 ≤ getD (c .ends) i 0
-  pub within : (i : ℕ) → i < maxSteps → getD (c .ends) i 0 ≤ length q
+-- the name with this operand is that one
+unfoldable pub isName : (q : List ℕ) → (operand : ℕ) → (name : List ℕ) → Bool
+unfolding sameBytes
+isName q w name = sameBytes (slice (nameStart w) (nameEnd w) q) name
 
--- the bounds of the names of a compiled query, beside it
-pub record Bounds (c : Compiled) (starts ends : List ℕ) : Type 0 where
-  pub starts-are : starts ≡ c .starts
-  pub ends-are : ends ≡ c .ends
+-- the name of step i is this one, and its position is this one
 
--- mark i is on, and the name of step i is this one
-unfoldable pub namedHit : List ℕ → Compiled → (marks : ℕ) → (name : List ℕ) → ℕ → Bool
-unfolding bit sameBytes
-namedHit q c m name i = bit i m && sameBytes (slice (getD (c .starts) i 0) (getD (c .ends) i 0) q) name
+unfoldable pub nameIs : (q operands name : List ℕ) → ℕ → Bool
+unfolding isName
+nameIs q operands name i = isName q (getD operands i 0) name
 
--- the label of a member by its name's bytes, or of an element
-pub data LabelIs (name : List ℕ) : (isObject : Bool) → Label → Type 0 where
-  by-name : LabelIs name true (member name)
-  by-position : (j : ℕ) → LabelIs name false (element j)
+unfoldable pub positionIs : (operands : List ℕ) → (position : ℕ) → ℕ → Bool
+positionIs operands j i = eqb (getD operands i 0) j
 
--- the marks whose next step takes a child
-pub record Taken (q : List ℕ) (c : Compiled) (marks : ℕ) (name : List ℕ) (isObject : Bool) (r : ℕ) : Type 0 where
-  pub taken : (x : List Step) → Holds q x c → (l : Label) → LabelIs name isObject l → (i : ℕ) → bit i r ≡ (bit i marks && stepHits (getElem? x i) l)
+-- of the marks of so many steps, those of which f holds
+abbrev pub Chosen : (count marks : ℕ) → (ℕ → Bool) → ℕ → Type 0
+Chosen count m f r = (i : ℕ) → bit i r ≡ (ltb i count && (bit i m && f i))
 
--- a child's marks, and whether it is picked out, from its parent's marks
-pub record Advances (q : List ℕ) (c : Compiled) (marks : ℕ) (name : List ℕ) (isObject : Bool) (marks′ : ℕ) (picked : Bool) : Type 0 where
-  pub marks-are : (x : List Step) → Holds q x c → (l : Label) → LabelIs name isObject l → marks′ ≡ nextMarks x marks l
-  pub picked-is : (x : List Step) → Holds q x c → (l : Label) → LabelIs name isObject l → picked ≡ nextPicked x marks l
+-- the label of a member by its name's bytes, or of an element by its position
+abbrev pub labelBy : (isObject : Bool) → (name : List ℕ) → (position : ℕ) → Label
+labelBy true name j = member name
+labelBy false name j = element j
+
+-- the marks whose next step takes the child with this label
+pub record Taken (q : List ℕ) (k : Kinds) (operands : List ℕ) (marks : ℕ) (l : Label) (r : ℕ) : Type 0 where
+  pub taken : (x : List Step) → Holds q x k operands → (i : ℕ) → bit i r ≡ (bit i marks && stepHits (getElem? x i) l)
+
+-- a child's marks, and whether it is picked out, from its parent's marks and its label
+pub record Advances (q : List ℕ) (k : Kinds) (operands : List ℕ) (marks : ℕ) (l : Label) (marks′ : ℕ) (picked : Bool) : Type 0 where
+  pub marks-are : (x : List Step) → Holds q x k operands → marks′ ≡ nextMarks x marks l
+  pub picked-is : (x : List Step) → Holds q x k operands → picked ≡ nextPicked x marks l

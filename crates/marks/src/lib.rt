@@ -1,17 +1,20 @@
 // Marks as the bits of one 16-bit number: which steps take a child, and the child's marks.
-use query_parser::Compiled;
+use query_parser::Kinds;
 ghost use mathlib.Core.Path.{_≡_};
-ghost use mathlib.Core.Bool.{true, false, _&&_};
+ghost use mathlib.Core.Bool.{true, _&&_};
+ghost use mathlib.Core.List.{List};
 ghost use Prim.Native.Nat.{ℕ, _≤_, _<_};
-ghost use lib.Dec.{ltb, eqb};
+ghost use lib.Dec.{eqb};
 ghost use lib.ListN.{length};
 ghost use lib.Seq.{slice};
 ghost use Rattle.bits.specs.Bits.{bit};
 ghost use Rattle.encoding.specs.Bytes.{sameBytes};
 ghost use Rattle.json.specs.Verdict.{maxDepth};
 ghost use Rattle.query.specs.Verdict.{maxSteps};
+ghost use Rattle.query_parser.specs.Holds.{nameStart, nameEnd, Fits};
+ghost use Rattle.select.specs.Nodes.{Label, member, element};
 ghost use Rattle.select.specs.Ways.{frameIf};
-ghost use Rattle.marks.specs.Advances.{Fits, Bounds, namedHit, Taken, Advances};
+ghost use Rattle.marks.specs.Advances.{isName, nameIs, positionIs, Chosen, labelBy, Taken, Advances};
 
 // A child's marks, and whether it is picked out.
 pub struct Advanced {
@@ -40,118 +43,166 @@ fn same_name(query: &[u8], from: usize, to: usize, record: &[u8], x: usize, y: u
     true
 }
 
-// Whether mark `i` is among the marks, and the query's bytes from `from` to `to` are the record's from `x` to `y`.
-fn hit(
+// Whether mark `i` is among the marks, and the name with this operand is the record's bytes from `x` to `y`. Only a mark says that the
+// operand is a name's.
+fn has_name(
     query: &[u8],
+    operand: u64,
     marks: u16,
     i: usize,
-    from: usize,
-    to: usize,
     record: &[u8],
     x: usize,
     y: usize,
 ) -> bool
     requires { ⌜ i < maxSteps ⌝ }
-    requires { ⌜ (from ≤ to) × (to ≤ length (now query)) ⌝ }
+    requires { ⌜ (bit i marks ≡ true → (nameStart operand ≤ nameEnd operand) × (nameEnd operand ≤ length (now query))) ⌝ }
     requires { ⌜ (x ≤ y) × (y ≤ length (now «record»)) ⌝ }
-    ensures { λ r. ⌜ r ≡ (bit i marks && sameBytes (slice from to (now (query .entry))) (slice x y (now («record» .entry)))) ⌝ }
+    ensures { λ r. ⌜ r ≡ (bit i marks && isName (now (query .entry)) operand (slice x y (now («record» .entry)))) ⌝ }
 {
     if marks >> i & 1 != 1 {
         return false;
     }
+    let from = query_parser::name_start(operand);
+    let to = query_parser::name_end(operand);
     same_name(query, from, to, record, x, y)
 }
 
-// Of the marks, those of steps whose name is the record's bytes from `x` to `y`. Steps before the first mark and after the last are not asked.
+// Of the marks of steps with a name, those whose name is the record's bytes from `x` to `y`. Steps before the first mark and after the
+// last are not asked.
 fn named(
     query: &[u8],
-    steps: Compiled,
-    starts: &[u16; 16],
-    ends: &[u16; 16],
+    kinds: Kinds,
+    operands: &[u64; 16],
     marks: u16,
     record: &[u8],
     x: usize,
     y: usize,
 ) -> u16
-    requires { ⌜ Fits (now query) steps × Bounds steps (now starts) (now ends) ⌝ }
+    requires { ⌜ Fits (now query) kinds (now operands) × ((i : ℕ) → bit i marks ≡ true → bit i (kinds .named) ≡ true) ⌝ }
     requires { ⌜ (x ≤ y) × (y ≤ length (now «record»)) ⌝ }
-    ensures { λ r. ⌜ ((i : ℕ) → bit i r ≡ (ltb i (steps .count) && namedHit (now (query .entry)) steps marks (slice x y (now («record» .entry))) i)) ⌝ }
+    ensures { λ r. ⌜ Chosen (kinds .count) marks (nameIs (now (query .entry)) (now (operands .entry)) (slice x y (now («record» .entry)))) r ⌝ }
 {
-    let count = steps.count;
+    let count = kinds.count;
     let mut hits: u16 = 0;
     let mut i = bits::lowest(marks as u64) as usize;
     while i < count {
         if marks >> i == 0 {
             return hits;
         }
-        let from = starts[i] as usize;
-        let to = ends[i] as usize;
-        let on = hit(query, marks, i, from, to, record, x, y);
-        hits = bits::with_bit(hits, i, on);
+        let same = has_name(query, operands[i], marks, i, record, x, y);
+        hits = bits::with_bit(hits, i, same);
         i += 1;
     }
     hits
 }
 
-// Of the marks, those whose next step takes a child: an element, or a member whose name is the record's bytes from `x` to `y`.
-fn taken(
+// Whether mark `i` is among the marks, and `operand` is the position `index`.
+fn has_position(operand: u64, marks: u16, i: usize, index: usize) -> bool
+    requires { ⌜ i < maxSteps ⌝ }
+    ensures { λ r. ⌜ r ≡ (bit i marks && eqb operand index) ⌝ }
+{
+    if marks >> i & 1 != 1 {
+        return false;
+    }
+    operand == index as u64
+}
+
+// Of the marks of steps with a position, those whose position is `index`.
+fn positioned(operands: &[u64; 16], count: usize, marks: u16, index: usize) -> u16
+    requires { ⌜ count ≤ maxSteps ⌝ }
+    ensures { λ r. ⌜ Chosen count marks (positionIs (now (operands .entry)) index) r ⌝ }
+{
+    let mut hits: u16 = 0;
+    let mut i = bits::lowest(marks as u64) as usize;
+    while i < count {
+        if marks >> i == 0 {
+            return hits;
+        }
+        let there = has_position(operands[i], marks, i, index);
+        hits = bits::with_bit(hits, i, there);
+        i += 1;
+    }
+    hits
+}
+
+// Of the marks, those whose next step takes a member whose name is the record's bytes from `x` to `y`.
+fn taking_member(
     query: &[u8],
-    steps: Compiled,
-    starts: &[u16; 16],
-    ends: &[u16; 16],
+    kinds: Kinds,
+    operands: &[u64; 16],
     marks: u16,
     record: &[u8],
     x: usize,
     y: usize,
-    object: bool,
 ) -> u16
-    requires { ⌜ Fits (now query) steps × Bounds steps (now starts) (now ends) ⌝ }
+    requires { ⌜ Fits (now query) kinds (now operands) ⌝ }
     requires { ⌜ (x ≤ y) × (y ≤ length (now «record»)) ⌝ }
-    ensures { λ r. ⌜ Taken (now (query .entry)) steps marks (slice x y (now («record» .entry))) object r ⌝ }
+    ensures { λ r. ⌜ Taken (now (query .entry)) kinds (now (operands .entry)) marks (member (slice x y (now («record» .entry)))) r ⌝ }
 {
-    let every = marks & steps.every;
-    let live = marks & steps.named;
-    if !object {
-        return every;
-    }
+    let every = marks & kinds.every;
+    let live = marks & kinds.named;
     if live == 0 {
         return every;
     }
-    every | named(query, steps, starts, ends, live, record, x, y)
+    every | named(query, kinds, operands, live, record, x, y)
 }
 
-// The marks of a child from its parent's, and whether the child is picked out. The bounds of the steps' names are lent
-// beside the steps, so that they are not copied at each name.
-pub fn advance(
-    query: &[u8],
-    steps: Compiled,
-    starts: &[u16; 16],
-    ends: &[u16; 16],
-    marks: u16,
-    record: &[u8],
-    x: usize,
-    y: usize,
-    object: bool,
-) -> Advanced
-    requires { ⌜ Fits (now query) steps × Bounds steps (now starts) (now ends) ⌝ }
-    requires { ⌜ (x ≤ y) × (y ≤ length (now «record»)) ⌝ }
-    ensures { λ r. ⌜ Advances (now (query .entry)) steps marks (slice x y (now («record» .entry))) object (r .marks) (r .picked) ⌝ }
+// Of the marks, those whose next step takes the element at the position `index`.
+fn taking_element(kinds: Kinds, operands: &[u64; 16], marks: u16, index: usize) -> u16
+    requires { ⌜ kinds .count ≤ maxSteps ⌝ }
+    ensures { λ r. ⌜ ((q : List ℕ) → Taken q kinds (now (operands .entry)) marks (element index) r) ⌝ }
 {
-    let count = steps.count;
+    let every = marks & kinds.every;
+    let live = marks & kinds.positioned;
+    if live == 0 {
+        return every;
+    }
+    every | positioned(operands, kinds.count, live, index)
+}
+
+// A child's marks, and whether it is picked out, from its parent's marks and the hits, those of them whose next step takes it.
+fn child(kinds: Kinds, marks: u16, hits: u16) -> Advanced
+    requires { ⌜ kinds .count ≤ maxSteps ⌝ }
+    ensures { λ r. ⌜ ((q operands : List ℕ) (l : Label) → Taken q kinds operands marks l hits → Advances q kinds operands marks l (r .marks) (r .picked)) ⌝ }
+{
+    let count = kinds.count;
     if count == 0 {
         return Advanced {
             marks: 0,
             picked: false,
         };
     }
-    let hits = taken(query, steps, starts, ends, marks, record, x, y, object);
     let last = count - 1;
     let all = ((1u32 << count) - 1) as u16;
     let picked = hits >> last & 1 == 1;
     Advanced {
-        marks: (hits << 1 | (marks & steps.deep)) & all,
+        marks: (hits << 1 | (marks & kinds.deep)) & all,
         picked,
     }
+}
+
+// The marks of a child from its parent's, and whether the child is picked out. Of a member its name's bytes are the record's from `x` to
+// `y`; of an element `index` is its position.
+pub fn advance(
+    query: &[u8],
+    kinds: Kinds,
+    operands: &[u64; 16],
+    marks: u16,
+    record: &[u8],
+    x: usize,
+    y: usize,
+    object: bool,
+    index: usize,
+) -> Advanced
+    requires { ⌜ Fits (now query) kinds (now operands) ⌝ }
+    requires { ⌜ (x ≤ y) × (y ≤ length (now «record»)) ⌝ }
+    ensures { λ r. ⌜ Advances (now (query .entry)) kinds (now (operands .entry)) marks (labelBy object (slice x y (now («record» .entry))) index) (r .marks) (r .picked) ⌝ }
+{
+    if object {
+        let hits = taking_member(query, kinds, operands, marks, record, x, y);
+        return child(kinds, marks, hits);
+    }
+    child(kinds, marks, taking_element(kinds, operands, marks, index))
 }
 
 // The frames with a container whose marks these are: one more where they differ from those of the container around it.

@@ -1,51 +1,34 @@
--- The bits of the child's marks are those of its next marks, cut to the number of steps; the last of them says whether it is picked out.
--- Assumes nothing.
-use Rattle.marks.proofs.NextMarks.{advances-none, mask-positive, mask-fits, advances}
+-- The hits of a member or of an element, and the child's marks that they lead to. Assumes nothing.
+use Rattle.marks.proofs.NextMarks.{of-object, of-array}
 use borrow.Author.Needs.{needs}
 use Rattle.marks.proofs.advance.Statement.{statement}
 use Rattle.marks.proofs.advance.Tie as tie
 
+taking-member-requires : tie.Need-taking-member-requires
+taking-member-requires c κs = search needs
+
+child-requires : tie.Need-child-requires
+child-requires c κs = search needs
+
 returns : tie.Need-returns
-returns c = advances-none _ _ _ _ _ (c .if1 .taken)
+returns c = of-object _ _ (c .before .before .if1 .taken) (c .child .ensures _ _ _ (c .before .taking-member .ensures))
 
-taken-requires : tie.Need-taken-requires
-taken-requires c κs = search needs
+taking-element-requires : tie.Need-taking-element-requires
+taking-element-requires c κs = search needs
 
-sub-last : tie.Need-sub-last
-sub-last c = search needs
-
-cast-all : tie.Need-cast-all
-cast-all c = search needs
-
-shl-all : tie.Need-shl-all
-shl-all c = search needs
-
-sub-all : tie.Need-sub-all
-sub-all c = mask-positive _ (c .before .before .before .before .pre .0 .0 .few)
-
-cast-all-2 : tie.Need-cast-all-2
-cast-all-2 c = record { fits = mask-fits _ (c .before .before .before .before .pre .0 .0 .few) }
-
-cast-picked : tie.Need-cast-picked
-cast-picked c = search needs
-
-shr-picked : tie.Need-shr-picked
-shr-picked c = search needs
+child-requires-2 : tie.Need-child-requires-2
+child-requires-2 c κs = search needs
 
 returns-2 : tie.Need-returns-2
-returns-2 c = advances _ _ _ _ _ _ (c .before .taken .ensures) (c .before .before .before .before .before .pre .0 .0 .few) (c .before .before .if1 .left)
+returns-2 c = of-array _ _ (c .before .before .if1 .left) (c .child2 .ensures _ _ _ (c .before .taking-element .ensures _))
 
 pub advance-spec : {M : Type 1} → statement M
 advance-spec =
     tie.close
     (tie.spec
+    taking-member-requires
+    child-requires
     returns
-    taken-requires
-    sub-last
-    cast-all
-    shl-all
-    sub-all
-    cast-all-2
-    cast-picked
-    shr-picked
+    taking-element-requires
+    child-requires-2
     returns-2)
