@@ -15,6 +15,7 @@ use Rattle.encoding.specs.Prefix.{DeadPlace}
 use Rattle.query_steps.specs.declared.Found.{Found}
 use Rattle.query_steps.specs.declared.StepRead.{StepRead}
 use Rattle.query_steps.specs.declared.StepRead.the-variants.{Taken, Refused}
+use Rattle.query_steps.specs.declared.Taking.the-variants.{Every, Name}
 use Rattle.query.specs.Grammar as G
 use Rattle.query.specs.Grammar.{Quote, quoteByte, Short, Inner, Depth, Spaced, QueryText, putFirst, putLaters, putChars, putDots, putDeep}
 use Rattle.query.specs.Grammar.{putSegment, putSpaced, isDeep, segmentStep}
@@ -118,8 +119,8 @@ part-from l b e (Reader.PartRead.taken f m t) = Reader.PartRead.taken f m (recor
 part-from l b e (Reader.PartRead.refused p g) = Reader.PartRead.refused p (e ∙ g)
 
 -- what was read in brackets, and their end
-module _ (q : List ℕ) (c : Control) (n k : ℕ) (f : Found) (said : Reading → Reading) (l : n ≤ k) (b : Bounded q f)
-    (bads : (p : ℕ) → said (bad p) ≡ bad p) (chooses : (r : Reading) → Ended r → said r ≡ choose (selectorAt q (f .every) (f .start) (f .end)) r)
+module _ (q : List ℕ) (c : Control) (n k : ℕ) (f : Found) (said : Reading → Reading) (l : n ≤ k) (b : Bounded q (f .taking))
+    (bads : (p : ℕ) → said (bad p) ≡ bad p) (chooses : (r : Reading) → Ended r → said r ≡ choose (selectorAt q (f .taking)) r)
     (stands : (m : ℕ) (w : Blanks) → putBlanks w (0x5D ∷ drop m q) ≡ drop k q → Begun q (f .place) (depthOf (f .deep)) c n → SegmentAt q f m)
     (e : reading c n (drop n q) ≡ said (reading closing k (drop k q))) where
   close-part : {a : StepRead} → Closed q f k a → PartRead q c n (f .place) (f .deep) a
@@ -135,10 +136,10 @@ module _ (q : List ℕ) (c : Control) (n k : ℕ) (f : Found) (said : Reading �
   close-part (Reader.Closed.refused p g) = Reader.PartRead.refused p (e ∙ ap said g ∙ bads p)
 
 abbrev nameFound : ℕ → Bool → ℕ → ℕ → Found
-nameFound place d a b = record { deep = d; every = false; place = place; start = a; end = b }
+nameFound place d a b = record { deep = d; place = place; taking = Name a b }
 
 abbrev everyFound : ℕ → Bool → Found
-everyFound place d = record { deep = d; every = true; place = place; start = 0; end = 0 }
+everyFound place d = record { deep = d; place = place; taking = Every }
 
 -- a quoted name
 module _ {q : List ℕ} {quote n place : ℕ} {deep ok : Bool} {r : ℕ} (s : QuotedName q quote n ok r) where
@@ -165,7 +166,7 @@ module _ {q : List ℕ} {quote n place : ℕ} {deep ok : Bool} {r : ℕ} (s : Qu
   quoted-taken e d x z =
       let c = s .closed e in
       close-part q (inside (quoted x)) n (r + 1) (nameFound place deep n r) (spell (slice n r q)) (omega (arith, c .0))
-      (record { order = c .0; within = s .within; none = λ y. absurd (subst T (sym y) tt) })
+      (c .0, s .within)
       (spell-bad (slice n r q)) (choose-name (slice n r q))
       (quoted-segment e x z)
       (s .reads x z ∙ ap (λ (b : Bool). spelt q (inside (quoted x)) n b r) e ∙
@@ -199,7 +200,7 @@ module _ {q : List ℕ} {n r : ℕ} (s : Skipped q n r) {place : ℕ} {deep : Bo
     unfolding step
     opened-every e z =
         close-part q opened n (r + 1) (everyFound place deep) (note R.every r (getD q r 0)) (omega (arith, s .from))
-        (record { order = omega arith; within = omega arith; none = λ y. omega arith })
+        tt
         (λ p. refl) (choose-every r (getD q r 0))
         (every-segment e)
         (over-blanks s opened blank-opened refl ∙ turn-at opened q r h closing (ap (step (M.at opened)) e)) z
@@ -229,7 +230,7 @@ module _ {q : List ℕ} {n place : ℕ} {deep : Bool} where
       Reader.PartRead.taken (everyFound place deep) (n + 1) (record {
         place = refl;
         depth = refl;
-        bounded = record { order = omega arith; within = omega arith; none = λ y. omega arith };
+        bounded = tt;
         on = omega arith;
         within = omega arith;
         stands = λ b. record {
@@ -264,7 +265,7 @@ module _ {q : List ℕ} {n place : ℕ} {deep : Bool} where
         Reader.PartRead.taken (nameFound place deep n r) r (record {
           place = refl;
           depth = refl;
-          bounded = record { order = omega arith; within = s .moved .within; none = λ y. absurd (subst T (sym y) tt) };
+          bounded = (omega arith, s .moved .within);
           on = m;
           within = s .moved .within;
           stands = short-segment e;
@@ -307,7 +308,7 @@ module _ (q : List ℕ) (c : Control) (n k place : ℕ) (deep : Bool) (said : Re
   whole-step : {a : StepRead} → PartRead q c k place deep a → StepAt q n a
   unfolding putSpaced
   whole-step (Reader.PartRead.taken f m t) =
-      let x : Selector = selectorAt q (f .every) (f .start) (f .end) in
+      let x : Selector = selectorAt q (f .taking) in
       let (w, u) = s .stand in
       let g = t .stands b in
       let y : Spaced = record { before = w; segment = g .segment } in

@@ -22,14 +22,19 @@ const SINGLE: u8 = 0x27;
 
 const DOUBLE: u8 = 0x22;
 
-// A step of the query: its kind, the place of the `.` or `[` that begins it, and its name's first byte and the byte after its last.
-// A step that takes `*` has no name, and its two bounds are 0.
+// What a step takes: everything; the name that stands between two places of the query, its first byte and the byte after its last; or a
+// position.
+pub enum Taking {
+    Every,
+    Name(usize, usize),
+    Position(u64),
+}
+
+// A step of the query: whether it is deep, the place of the `.` or `[` that begins it, and what it takes.
 pub struct Found {
     pub deep: bool,
-    pub every: bool,
     pub place: usize,
-    pub start: usize,
-    pub end: usize,
+    pub taking: Taking,
 }
 
 // What stands at a place: a step, and the place after it; or a refusal, and the place of the dead byte.
@@ -82,10 +87,8 @@ fn read_quoted(
     let end = name.at;
     let found = Found {
         deep,
-        every: false,
         place,
-        start: at,
-        end,
+        taking: Taking::Name(at, end),
     };
     close(query, found, end + 1)
 }
@@ -103,10 +106,8 @@ fn read_bracket(rows: &Rows, query: &[u8], place: usize, deep: bool, at: usize) 
     if b == STAR {
         let found = Found {
             deep,
-            every: true,
             place,
-            start: 0,
-            end: 0,
+            taking: Taking::Every,
         };
         return close(query, found, inner + 1);
     }
@@ -131,10 +132,8 @@ fn read_short(rows: &Rows, query: &[u8], place: usize, deep: bool, at: usize) ->
         return StepRead::Taken(
             Found {
                 deep,
-                every: true,
                 place,
-                start: 0,
-                end: 0,
+                taking: Taking::Every,
             },
             at + 1,
         );
@@ -147,10 +146,8 @@ fn read_short(rows: &Rows, query: &[u8], place: usize, deep: bool, at: usize) ->
     StepRead::Taken(
         Found {
             deep,
-            every: false,
             place,
-            start: at,
-            end,
+            taking: Taking::Name(at, end),
         },
         end,
     )
