@@ -1,7 +1,7 @@
 -- One step of a query: each part of it that a scan passed leads the reading on, and what stands there is a segment of the grammar.
 -- Assumes nothing.
 use mathlib.Core.Path.{_≡_, refl, ap, ap₂, sym, subst, _∙_}
-use mathlib.Core.List.{List, [], _∷_}
+use mathlib.Core.List.{List, [], _∷_, _++_}
 use mathlib.Core.Bool.{Bool, true, false}
 use Prim.Native.Nat.{ℕ, suc, _+_, _-_, _≤_, _<_}
 use native.Mathlib.Omega.{arith}
@@ -35,7 +35,7 @@ use Rattle.query.specs.Place.{Tells, well, ill, tells, accepts-text, dead-place
 use Rattle.query_lexer.specs.Scans.{BlankIs, other, Skipped, spelt, deeperByte, ShortName, QuotedName}
 use Rattle.query_steps.specs.Reader
 use Rattle.query_steps.specs.Reader.{depthOf, selectorAt, Bounded, choose, push, Closed, Begun, SegmentAt, PartRead, StepAt}
-use Rattle.query_steps.proofs.Skips.{blanks-far, over-blanks}
+use Rattle.query_steps.proofs.Skips.{blanks-far, over-blanks, blanks-behind}
 
 -- what a step takes, before what is read behind it
 choose-every : (n b : ℕ) (r : Reading) → Ended r → note R.every n b r ≡ choose S.every r
@@ -174,46 +174,49 @@ module _ {q : List ℕ} {quote n place : ℕ} {deep ok : Bool} {r : ℕ} (s : Qu
       (ap (step (M.at (inside (quoted x)))) (c .2 ∙ z) ∙ quote-closes x) refl))
       d
 
--- in brackets
+-- in brackets, behind the blanks
 module _ {q : List ℕ} {n r : ℕ} (s : Skipped q n r) {place : ℕ} {deep : Bool} where
+  pub over-opened : {a : StepRead} → PartRead q opened r place deep a → PartRead q opened n place deep a
+  over-opened z =
+      part-from (s .from)
+      (λ (w, b). (
+        w ++ s .stand .0,
+        ap (λ (u : List ℕ). putDeep (depthOf deep) (0x5B ∷ u)) (blanks-behind w (s .stand .0) (drop r q) ∙ ap (putBlanks w) (s .stand .1)) ∙ b,
+      ))
+      (over-blanks s opened blank-opened refl) z
+
   pub opened-end : length q ≤ r → PartRead q opened n place deep (Refused r)
-  opened-end h = Reader.PartRead.refused r (over-blanks s opened blank-opened refl ∙ end-at opened q r h refl)
+  opened-end h = over-opened (Reader.PartRead.refused r (end-at opened q r h refl))
 
   module _ (h : r < length q) where
     pub opened-other : (getD q r 0 ≡ 0x2A → ⊥) → (getD q r 0 ≡ 0x27 → ⊥) → (getD q r 0 ≡ 0x22 → ⊥) → PartRead q opened n place deep (Refused r)
-    opened-other f g k = Reader.PartRead.refused r (over-blanks s opened blank-opened refl ∙ stop-at opened q r h (other-opened (s .next h) f g k))
+    opened-other f g k = over-opened (Reader.PartRead.refused r (stop-at opened q r h (other-opened (s .next h) f g k)))
 
     every-segment : getD q r 0 ≡ 0x2A → (m : ℕ) (v : Blanks) → putBlanks v (0x5D ∷ drop m q) ≡ drop (r + 1) q →
-        Begun q place (depthOf deep) opened n → SegmentAt q (everyFound place deep) m
+        Begun q place (depthOf deep) opened r → SegmentAt q (everyFound place deep) m
     unfolding putSegment segmentStep
-    every-segment e m v f b =
-        let (w, t) = s .stand in
+    every-segment e m v f (w, b) =
         let d : Depth = depthOf deep in
         record {
           segment = G.bracketed d w Inner.star v;
-          written = ap (λ (u : List ℕ). putDeep d (0x5B ∷ putBlanks w u)) (ap (λ (u : List ℕ). 0x2A ∷ u) f ∙ sym (byte-is q r h e)) ∙
-              ap (λ (u : List ℕ). putDeep d (0x5B ∷ u)) t ∙ b;
+          written = ap (λ (u : List ℕ). putDeep d (0x5B ∷ putBlanks w u)) (ap (λ (u : List ℕ). 0x2A ∷ u) f ∙ sym (byte-is q r h e)) ∙ b;
           step = step-is deep refl;
         }
 
     pub opened-every : getD q r 0 ≡ 0x2A → {a : StepRead} → Closed q (everyFound place deep) (r + 1) a → PartRead q opened n place deep a
     unfolding step
-    opened-every e z =
-        close-part q opened n (r + 1) (everyFound place deep) (note R.every r (getD q r 0)) (omega (arith, s .from))
-        tt
+    opened-every e z = over-opened
+        (close-part q opened r (r + 1) (everyFound place deep) (note R.every r (getD q r 0)) (omega arith) tt
         (λ p. refl) (choose-every r (getD q r 0))
         (every-segment e)
-        (over-blanks s opened blank-opened refl ∙ turn-at opened q r h closing (ap (step (M.at opened)) e)) z
+        (turn-at opened q r h closing (ap (step (M.at opened)) e)) z)
 
     pub opened-quote : (x : Quote) → getD q r 0 ≡ quoteByte x → {a : StepRead} → PartRead q (inside (quoted x)) (r + 1) place deep a →
         PartRead q opened n place deep a
-    opened-quote x e z =
-        part-from (omega (arith, s .from))
-        (λ b. (
-          s .stand .0,
-          ap (λ (u : List ℕ). putDeep (depthOf deep) (0x5B ∷ u)) (ap (putBlanks (s .stand .0)) (sym (byte-is q r h e)) ∙ s .stand .1) ∙ b,
-        ))
-        (over-blanks s opened blank-opened refl ∙ kept-at opened q r h (inside (quoted x)) (ap (step (M.at opened)) e ∙ quote-opens x) refl) z
+    opened-quote x e z = over-opened
+        (part-from (omega arith)
+        (λ (w, b). (w, ap (λ (u : List ℕ). putDeep (depthOf deep) (0x5B ∷ putBlanks w u)) (sym (byte-is q r h e)) ∙ b))
+        (kept-at opened q r h (inside (quoted x)) (ap (step (M.at opened)) e ∙ quote-opens x) refl) z)
 
 -- behind `.` or `..`
 star-done : (d : Depth) → step (M.at (M.dotted d)) 0x2A ≡ M.at done
@@ -279,8 +282,8 @@ bracket-opens = refl
 
 pub deep-bracket : {q : List ℕ} {n place : ℕ} {a : StepRead} → n < length q → getD q n 0 ≡ 0x5B → PartRead q opened (n + 1) place true a →
     PartRead q (M.dotted (depthOf true)) n place true a
-unfolding putDots putDeep
-deep-bracket {q} {n} h e z = part-from (omega arith) (λ b. ap (λ (u : List ℕ). 0x2E ∷ 0x2E ∷ u) (sym (byte-is q n h e)) ∙ b)
+unfolding putDots putDeep putBlanks
+deep-bracket {q} {n} h e z = part-from (omega arith) (λ b. ([], ap (λ (u : List ℕ). 0x2E ∷ 0x2E ∷ u) (sym (byte-is q n h e)) ∙ b))
     (kept-at (M.dotted G.deep) q n h opened (ap (step (M.at (M.dotted G.deep))) e ∙ bracket-opens) refl) z
 
 -- what is read from n on is refused
@@ -343,10 +346,10 @@ module _ {q : List ℕ} {n r : ℕ} (l : n < length q) (s : Skipped q n r) where
     step-other f g = refused-at q n r (to-gap ∙ stop-at gap q r h (other-gap (s .next h) g f))
 
     pub step-bracket : getD q r 0 ≡ 0x5B → {a : StepRead} → PartRead q opened (r + 1) r false a → StepAt q n a
-    unfolding step putDeep
+    unfolding step putDeep putBlanks
     step-bracket e z =
         whole-step q opened n (r + 1) r false (note begin r (getD q r 0)) s (omega arith) (λ p. refl) (push-plain r (getD q r 0))
-        (sym (byte-is q r h e))
+        ([], sym (byte-is q r h e))
         (to-gap ∙ turn-at gap q r h opened (ap (step (M.at gap)) e)) z
 
     module _ (e : getD q r 0 ≡ 0x2E) where
