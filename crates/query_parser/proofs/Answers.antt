@@ -1,16 +1,20 @@
 -- The answer to a query: what was read so far stands before what is still to be read, and the verdict is that of the whole.
 -- Assumes nothing.
 use mathlib.Core.Path.{_≡_, refl, ap, sym, subst, _∙_}
+use mathlib.Core.Bool.{true, false≢true}
 use mathlib.Core.List.{List, [], _∷_, _++_, map, append-assoc, append-nil}
 use Prim.Native.Nat.{ℕ, suc, _≤_, _<_}
 use native.Mathlib.Omega.{arith}
 use denote.Enum.Declared.{tagOf}
-use lib.ListN.{length, getD, drop, replicate, drop-of-length-le, getD-replicate, length-append}
+use lib.ListN.{length, getD, drop, drop-of-length-le, length-append}
 use Rattle.query_steps.specs.declared.Found.{Found}
 use Rattle.query_steps.specs.declared.StepRead.{StepRead}
 use Rattle.query_steps.specs.declared.StepRead.the-variants.{Taken}
+use Rattle.query_steps.specs.declared.Taking.{Taking}
+use Rattle.query_steps.specs.declared.Taking.the-variants.{Every, Name, Position}
 use Rattle.query_parser.specs.declared.compiled.Compiled.{Compiled}
 use Rattle.query_parser.specs.declared.Outcome.{Outcome}
+use Rattle.bits.specs.Bits.{bit}
 use Rattle.bits.specs.Laws.{bit-zero}
 use Rattle.encoding.specs.Verdict
 use Rattle.encoding.specs.Verdict.{Verdict, refused}
@@ -22,9 +26,10 @@ use Rattle.query.specs.Ended.{Ended, clean, cut, ended}
 use Rattle.query.specs.At.{end-at, stop-at, kept-at}
 use Rattle.query.specs.MachineLaws.{miss-only}
 use Rattle.query_steps.specs.Reader
-use Rattle.query_steps.specs.Reader.{readPlace, placedAt, push, StepTaken, StepAt}
+use Rattle.query_steps.specs.Reader.{readPlace, placedAt, Bounded, push, StepTaken, StepAt}
 use Rattle.query.specs.Verdict.{maxQueryBytes, maxSteps, stepsIn, placeOf, judged, queryVerdict}
 use Rattle.query.specs.Says.{short-enough, too-long, few, too-many}
+use Rattle.query_parser.specs.Compiles.{Short}
 use Rattle.query_parser.specs.Holds.{Holds, noSteps}
 use Rattle.query_parser.specs.Answer.{refusal, overflow, StepsFor, QueryRead}
 use Rattle.query_steps.proofs.StepRead.{the-type}
@@ -135,47 +140,56 @@ pub record SoFar (q : List ℕ) (c : Compiled) (i : ℕ) : Type 0 where
   pub short : length q ≤ maxQueryBytes
   pub within : i ≤ length q
   pub before : List Placed
-  pub held : Holds q (stepsOf before) c
+  pub held : Holds q (stepsOf before) (c .kinds) (c .operands)
   pub reads : reading root 0 q ≡ prepend before (reading done i (drop i q))
 
 root-leads : step (M.at root) 0x24 ≡ M.at done
 unfolding step
 root-leads = refl
 
-holds-none : (q : List ℕ) → Holds q [] noSteps
+holds-none : (q : List ℕ) → Holds q [] (noSteps .kinds) (noSteps .operands)
 holds-none q = record {
+  fits = record {
+    few = omega arith;
+    operands-length = refl;
+    order = λ i h. absurd (none-on i h);
+    within = λ i h. absurd (none-on i h);
+  };
   count = refl;
-  few = omega arith;
   deep = λ i. bit-zero i;
   every = λ i. bit-zero i;
   named = λ i. bit-zero i;
-  starts-length = refl;
-  ends-length = refl;
-  order = λ i h. rw (zeros i h) (omega arith);
-  within = λ i h. rw (zeros i h) (omega arith);
-  name = λ i h. rw (zeros i h) refl;
+  positioned = λ i. bit-zero i;
+  name = λ i h. absurd (none-on i h);
+  position = λ i h. absurd (none-on i h);
 }
   where
-    zeros : (i : ℕ) → i < maxSteps → _≡_ {A = ℕ} (getD (replicate maxSteps 0) i 0) 0
-    zeros i h = getD-replicate maxSteps i 0 0 h
+    none-on : (i : ℕ) → bit i 0 ≡ true → ⊥
+    none-on i h = false≢true (sym (bit-zero i) ∙ h)
 
 pub begin-so-far : {q : List ℕ} {c : Compiled} → length q ≤ maxQueryBytes → (length q ≡ 0 → ⊥) → getD q 0 0 ≡ 0x24 → c ≡ noSteps → SoFar q c 1
 begin-so-far {q} {c} l n e f = record {
   short = l;
   within = omega arith;
   before = [];
-  held = subst (Holds q []) (sym f) (holds-none q);
+  held = subst (λ (d : Compiled). Holds q [] (d .kinds) (d .operands)) (sym f) (holds-none q);
   reads = kept-at root q 0 (omega arith) done (ap (step (M.at root)) e ∙ root-leads) refl ∙ prepend-none (ended 1 (drop 1 q));
 }
 
+-- a name in a query that is short enough has small bounds
+short-found : (q : List ℕ) (t : Taking) → length q ≤ maxQueryBytes → Bounded q t → Short t
+short-found q Every l b = tt
+short-found q (Name a e) l b = (omega (arith, b .0, b .1), omega (arith, b .1))
+short-found q (Position j) l b = tt
+
 module _ {q : List ℕ} {c : Compiled} {i : ℕ} (s : SoFar q c i) where
-  pub so-far-more : {f : Found} {m : ℕ} {d : Compiled} → StepTaken q i f m → Holds q (stepsOf (s .before) ++ placedAt q f .step ∷ []) d →
+  pub so-far-more : {f : Found} {m : ℕ} {d : Compiled} → StepTaken q i f m → Holds q (stepsOf (s .before) ++ placedAt q f .step ∷ []) (d .kinds) (d .operands) →
       SoFar q d m
   so-far-more {f} {m} {d} t w = record {
     short = s .short;
     within = t .within;
     before = s .before ++ placedAt q f ∷ [];
-    held = subst (λ (x : List Step). Holds q x d) (sym (stepsOf-more (s .before) (placedAt q f))) w;
+    held = subst (λ (x : List Step). Holds q x (d .kinds) (d .operands)) (sym (stepsOf-more (s .before) (placedAt q f))) w;
     reads = s .reads ∙ ap (prepend (s .before)) (t .reads) ∙ prepend-push (s .before) (placedAt q f) (reading done m (drop m q));
   }
 
@@ -190,16 +204,16 @@ module _ {q : List ℕ} {c : Compiled} {i : ℕ} (s : SoFar q c i) where
       let l = s .before in
       let e : reading root 0 q ≡ good (named [] l) = s .reads ∙ ap (prepend l) (nothing-left q i h) ∙
       ap (λ (k : List Placed). good (named [] k)) (append-nil l) in
-      let v : queryVerdict q ≡ Verdict.taken = short-enough q (s .short) ∙ ap judged e ∙ few l (omega (arith, s .held .few, length-steps l)) in
+      let v : queryVerdict q ≡ Verdict.taken = short-enough q (s .short) ∙ ap judged e ∙ few l (omega (arith, s .held .fits .few, s .held .count, length-steps l)) in
       let x : stepsIn q ≡ stepsOf l = ap (λ (r : Reading). stepsOf (stepsRead r)) e in
       record {
         ground = sym (ap (λ (v : Verdict). v .ground) v);
         place = sym (ap (λ (v : Verdict). v .place) v);
-        steps = subst (λ (v : Verdict). StepsFor q (v .ground) c) (sym v) (subst (λ (k : List Step). Holds q k c) (sym x) (s .held));
+        steps = subst (λ (v : Verdict). StepsFor q (v .ground) c) (sym v) (subst (λ (k : List Step). Holds q k (c .kinds) (c .operands)) (sym x) (s .held));
       }
 
   -- a 17th step stands there
-  pub so-far-many : {f : Found} {m : ℕ} {a : Outcome} → StepTaken q i f m → c .count ≡ maxSteps →
+  pub so-far-many : {f : Found} {m : ℕ} {a : Outcome} → StepTaken q i f m → c .kinds .count ≡ maxSteps →
       a ≡ overflow (f .place) (reading done m (drop m q)) → QueryRead q a
   unfolding judged
   so-far-many {f} {m} {a} t n g = go (reading done m (drop m q)) (s .reads ∙ ap (prepend (s .before)) (t .reads)) g
@@ -215,10 +229,5 @@ module _ {q : List ℕ} {c : Compiled} {i : ℕ} (s : SoFar q c i) where
       go (bad p) e g = bad-answer (s .short) e g
 
   -- there is room for one step more
-  pub add-fits : {f : Found} {m : ℕ} → StepTaken q i f m → (c .count ≡ maxSteps → ⊥) →
-      (c .count < maxSteps) × (f .start ≤ maxQueryBytes) × (f .end ≤ maxQueryBytes)
-  add-fits t n = (
-    omega (arith, s .held .count, s .held .few),
-    omega (arith, s .short, t .bounded .order, t .bounded .within),
-    omega (arith, s .short, t .bounded .within),
-  )
+  pub add-fits : {f : Found} {m : ℕ} → StepTaken q i f m → (c .kinds .count ≡ maxSteps → ⊥) → (c .kinds .count < maxSteps) × Short (f .taking)
+  add-fits {f} t n = (omega (arith, s .held .fits .few), short-found q (f .taking) (s .short) (t .bounded))

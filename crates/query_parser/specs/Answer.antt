@@ -19,7 +19,7 @@ overflow place (bad p) = refusal 2 p
 
 -- the steps for a ground: all of the query's where there is none, and none on refusal
 abbrev pub StepsFor : List ℕ → ℕ → Compiled → Type 0
-StepsFor q zero c = Holds q (stepsIn q) c
+StepsFor q zero c = Holds q (stepsIn q) (c .kinds) (c .operands)
 StepsFor q (suc g) c = c ≡ noSteps
 
 pub record QueryRead (q : List ℕ) (r : Outcome) : Type 0 where

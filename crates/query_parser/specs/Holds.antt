@@ -1,16 +1,20 @@
--- What the compiled form of a query holds: its steps, as bits and as bounds of names in the query (document 01, "Marks, frames, the pile").
+-- What the compiled form of a query holds: its steps, as bits, and for each an operand, the name or the position that it takes
+-- (document 01, "Marks, frames, the pile").
 use mathlib.Core.Path.{_≡_}
 use mathlib.Core.List.{List, []}
 use mathlib.Core.Bool.{Bool, true, false}
 use mathlib.Core.Option.{Option, some, none}
-use Prim.Native.Nat.{ℕ, _≤_, _<_}
+use Prim.Native.Nat.{ℕ, _/_, _%_, _≤_}
 use lib.ListN.{length, getD, getElem?, replicate}
 use lib.Seq.{slice}
 use Rattle.bits.specs.Bits.{bit}
+use Rattle.query_parser.specs.declared.compiled.Kinds.{Kinds}
 use Rattle.query_parser.specs.declared.compiled.Compiled.{Compiled}
 use Rattle.query.specs.Steps.{Selector, name, every, position, Step, isDeep}
 use Rattle.query.specs.Read.{nameBytes}
 use Rattle.query.specs.Verdict.{maxSteps}
+
+-- what a selector is: `*`, a name or a position; and the position
 
 abbrev pub isEvery : Selector → Bool
 isEvery (name w) = false
@@ -22,7 +26,17 @@ isNamed (name w) = true
 isNamed every = false
 isNamed (position j) = false
 
--- of a step, if there is one: whether it takes `*`, whether it takes a name, and the bytes of its name
+abbrev pub isPositioned : Selector → Bool
+isPositioned (name w) = false
+isPositioned every = false
+isPositioned (position j) = true
+
+abbrev pub positionOf : Selector → ℕ
+positionOf (name w) = 0
+positionOf every = 0
+positionOf (position j) = j
+
+-- the same of a step, if there is one; and the bytes of its name
 
 abbrev pub everyAt : Option Step → Bool
 everyAt none = false
@@ -32,23 +46,47 @@ abbrev pub namedAt : Option Step → Bool
 namedAt none = false
 namedAt (some x) = isNamed (x .selector)
 
+abbrev pub positionedAt : Option Step → Bool
+positionedAt none = false
+positionedAt (some x) = isPositioned (x .selector)
+
 abbrev pub nameAt : Option Step → List ℕ
 nameAt none = []
 nameAt (some x) = nameBytes (x .selector)
 
--- c holds exactly the steps x of the query q; bit and bound i are those of the step number i, counted from 0
-pub record Holds (q : List ℕ) (x : List Step) (c : Compiled) : Type 0 where
-  pub count : c .count ≡ length x
-  pub few : length x ≤ maxSteps
-  pub deep : (i : ℕ) → bit i (c .deep) ≡ isDeep (getElem? x i)
-  pub every : (i : ℕ) → bit i (c .every) ≡ everyAt (getElem? x i)
-  pub named : (i : ℕ) → bit i (c .named) ≡ namedAt (getElem? x i)
-  pub starts-length : length (c .starts) ≡ maxSteps
-  pub ends-length : length (c .ends) ≡ maxSteps
-  pub order : (i : ℕ) → i < maxSteps → getD (c .starts) i 0 ≤ getD (c .ends) i 0
-  pub within : (i : ℕ) → i < maxSteps → getD (c .ends) i 0 ≤ length q
-  pub name : (i : ℕ) → i < maxSteps → slice (getD (c .starts) i 0) (getD (c .ends) i 0) q ≡ nameAt (getElem? x i)
+abbrev pub positionAt : Option Step → ℕ
+positionAt none = 0
+positionAt (some x) = positionOf (x .selector)
+
+-- the operand of a step with a name is the name's bounds in the query as one number: the place of its first byte, and the place after its last
+
+abbrev pub nameStart : ℕ → ℕ
+nameStart w = w / 65536
+
+abbrev pub nameEnd : ℕ → ℕ
+nameEnd w = w % 65536
+
+-- there is room for the steps, and the names lie in the query
+pub record Fits (q : List ℕ) (k : Kinds) (operands : List ℕ) : Type 0 where
+  pub few : k .count ≤ maxSteps
+  pub operands-length : length operands ≡ maxSteps
+  pub order : (i : ℕ) → bit i (k .named) ≡ true → nameStart (getD operands i 0) ≤ nameEnd (getD operands i 0)
+  pub within : (i : ℕ) → bit i (k .named) ≡ true → nameEnd (getD operands i 0) ≤ length q
+
+-- these are exactly the steps x of the query q; bit and operand i are those of the step number i, counted from 0
+pub record Holds (q : List ℕ) (x : List Step) (k : Kinds) (operands : List ℕ) : Type 0 where
+  pub fits : Fits q k operands
+  pub count : k .count ≡ length x
+  pub deep : (i : ℕ) → bit i (k .deep) ≡ isDeep (getElem? x i)
+  pub every : (i : ℕ) → bit i (k .every) ≡ everyAt (getElem? x i)
+  pub named : (i : ℕ) → bit i (k .named) ≡ namedAt (getElem? x i)
+  pub positioned : (i : ℕ) → bit i (k .positioned) ≡ positionedAt (getElem? x i)
+  pub name : (i : ℕ) → bit i (k .named) ≡ true → slice (nameStart (getD operands i 0)) (nameEnd (getD operands i 0)) q ≡ nameAt (getElem? x i)
+  pub position : (i : ℕ) → bit i (k .positioned) ≡ true → getD operands i 0 ≡ positionAt (getElem? x i)
 
 -- no steps: every number is 0
 abbrev pub noSteps : Compiled
-noSteps = record { count = 0; deep = 0; every = 0; named = 0; starts = replicate maxSteps 0; ends = replicate maxSteps 0 }
+noSteps = record {
+  kinds = record { count = 0; deep = 0; every = 0; named = 0; positioned = 0 };
+  operands = replicate maxSteps 0;
+}

@@ -1,24 +1,58 @@
-// The steps of a query in the form that the walks use: kinds as bits, names as their bounds in the query.
+// The steps of a query in the form that the walks use: kinds as bits, and an operand for each step, the name or the position that it takes.
 use query_steps::Found;
+use query_steps::Taking;
 ghost use mathlib.Core.Path.{_≡_};
 ghost use mathlib.Core.List.{List, [], _∷_, _++_};
-ghost use Prim.Native.Nat.{ℕ, _<_, _≤_};
+ghost use Prim.Native.Nat.{ℕ, _<_};
 ghost use Rattle.query.specs.Steps.{Step};
-ghost use Rattle.query.specs.Verdict.{maxSteps, maxQueryBytes};
+ghost use Rattle.query.specs.Verdict.{maxSteps};
 ghost use Rattle.query_steps.specs.Reader.{Bounded, placedAt};
-ghost use Rattle.query_parser.specs.Holds.{Holds, noSteps};
+ghost use Rattle.query_parser.specs.Compiles.{Short, Compiles};
+ghost use Rattle.query_parser.specs.Holds.{nameStart, nameEnd, Holds, noSteps};
 
 pub const MAX_STEPS: usize = 16;
 
-// The steps of a query: how many there are, and for each the bit of its number in the masks of deep steps, of those that take `*` and of
-// those that take a name, and the bounds of its name in the query, both 0 where it takes `*`.
-pub struct Compiled {
+// A name's bounds are one number: the place of its first byte times this, and the place after its last.
+const BOUND: u64 = 65_536;
+
+// The kinds of a query's steps: how many steps there are, and for each the bit of its number in the masks of deep steps, of those that
+// take `*`, of those that take a name and of those that take a position.
+pub struct Kinds {
     pub count: usize,
     pub deep: u16,
     pub every: u16,
     pub named: u16,
-    pub starts: [u16; 16],
-    pub ends: [u16; 16],
+    pub positioned: u16,
+}
+
+// The steps of a query: their kinds, and the operand of each. That of a step with a name is the name's bounds in the query as one number,
+// its first byte's place times 65,536 and the place after its last; that of a step with a position is the position; that of `*` is 0.
+pub struct Compiled {
+    pub kinds: Kinds,
+    pub operands: [u64; 16],
+}
+
+// One step in this form: its bit of each mask, and its operand.
+pub struct Entry {
+    pub deep: bool,
+    pub every: bool,
+    pub named: bool,
+    pub positioned: bool,
+    pub operand: u64,
+}
+
+// The place of the first byte of a name, from its step's operand.
+pub fn name_start(operand: u64) -> usize
+    ensures { λ r. ⌜ r ≡ nameStart operand ⌝ }
+{
+    (operand / BOUND) as usize
+}
+
+// The place after the last byte of a name, from its step's operand.
+pub fn name_end(operand: u64) -> usize
+    ensures { λ r. ⌜ r ≡ nameEnd operand ⌝ }
+{
+    (operand % BOUND) as usize
 }
 
 // No steps: every number is 0.
@@ -26,27 +60,64 @@ pub fn no_steps() -> Compiled
     ensures { λ r. ⌜ r ≡ noSteps ⌝ }
 {
     Compiled {
-        count: 0,
-        deep: 0,
-        every: 0,
-        named: 0,
-        starts: [0u16; MAX_STEPS],
-        ends: [0u16; MAX_STEPS],
+        kinds: Kinds {
+            count: 0,
+            deep: 0,
+            every: 0,
+            named: 0,
+            positioned: 0,
+        },
+        operands: [0u64; MAX_STEPS],
+    }
+}
+
+// The step that was found.
+fn entry_of(found: Found) -> Entry
+    requires { ⌜ Short (found .taking) ⌝ }
+    ensures { λ r. ⌜ ((q : List ℕ) → Bounded q (found .taking) → Compiles q (placedAt q found .step) r) ⌝ }
+{
+    let taking = found.taking;
+    match taking {
+        Taking::Every => Entry {
+            deep: found.deep,
+            every: true,
+            named: false,
+            positioned: false,
+            operand: 0,
+        },
+        Taking::Name(start, end) => Entry {
+            deep: found.deep,
+            every: false,
+            named: true,
+            positioned: false,
+            operand: start as u64 * BOUND + end as u64,
+        },
+        Taking::Position(position) => Entry {
+            deep: found.deep,
+            every: false,
+            named: false,
+            positioned: true,
+            operand: position,
+        },
     }
 }
 
 // The steps with one more, for which there is room.
 pub fn add(steps: Compiled, found: Found) -> Compiled
-    requires { ⌜ (steps .count < maxSteps) × (found .start ≤ maxQueryBytes) × (found .end ≤ maxQueryBytes) ⌝ }
-    ensures { λ r. ⌜ ((q : List ℕ) (x : List Step) → Holds q x steps → Bounded q found → Holds q (x ++ placedAt q found .step ∷ []) r) ⌝ }
+    requires { ⌜ (steps .kinds .count < maxSteps) × Short (found .taking) ⌝ }
+    ensures { λ r. ⌜ ((q : List ℕ) (x : List Step) → Holds q x (steps .kinds) (steps .operands) → Bounded q (found .taking) → Holds q (x ++ placedAt q found .step ∷ []) (r .kinds) (r .operands)) ⌝ }
 {
-    let k = steps.count;
-    let mut more = steps;
-    more.count = k + 1;
-    more.starts[k] = found.start as u16;
-    more.ends[k] = found.end as u16;
-    more.deep = bits::with_bit(steps.deep, k, found.deep);
-    more.every = bits::with_bit(steps.every, k, found.every);
-    more.named = bits::with_bit(steps.named, k, !found.every);
-    more
+    let one = entry_of(found);
+    let old = steps.kinds;
+    let k = old.count;
+    let mut operands = steps.operands;
+    operands[k] = one.operand;
+    let kinds = Kinds {
+        count: k + 1,
+        deep: bits::with_bit(old.deep, k, one.deep),
+        every: bits::with_bit(old.every, k, one.every),
+        named: bits::with_bit(old.named, k, one.named),
+        positioned: bits::with_bit(old.positioned, k, one.positioned),
+    };
+    Compiled { kinds, operands }
 }

@@ -1,7 +1,10 @@
-// The query reader: grounds 1 to 3, and the steps of a query as masks and bounds of names.
+// The query reader: grounds 1 to 3, and the steps of a query as masks and operands.
 mod compiled;
 
 pub use compiled::Compiled;
+pub use compiled::Kinds;
+pub use compiled::name_end;
+pub use compiled::name_start;
 use encoding::Rows;
 use query_steps::StepRead;
 ghost use mathlib.Core.Path.{_≡_};
@@ -79,7 +82,7 @@ pub fn read_query(query: &[u8]) -> Outcome
         let StepRead::Taken(found, after) = read else {
             return refuse(WRONG, query_steps::place_of(read));
         };
-        if steps.count == compiled::MAX_STEPS {
+        if steps.kinds.count == compiled::MAX_STEPS {
             return too_many(&rows, query, found.place, after);
         }
         steps = compiled::add(steps, found);

@@ -81,7 +81,7 @@ returns-5 c =
     let s = c .before .before .before .before .before .before .before .before .before .before .loop .inv .0 in
     let t = step-taken (c .before .before .before .before .before .before .before .read-step .ensures)
     (c .before .before .before .before .before .read .given .1) in
-    so-far-many s t (omega (arith, s .held .count, s .held .few)) (c .too-many .ensures)
+    so-far-many s t (omega (arith, s .held .fits .few)) (c .too-many .ensures)
 
 add-requires : tie.Need-add-requires Inv-loop μ-loop
 add-requires c κs = let t = step-taken (c .before .before .before .before .before .read-step .ensures)
