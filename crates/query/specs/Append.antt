@@ -2,13 +2,13 @@
 use mathlib.Core.Path.{_≡_, refl, ap, _∙_}
 use mathlib.Core.List.{List, [], _∷_, _++_}
 use Prim.Native.Nat.{ℕ}
-use Rattle.encoding.specs.Bytes.{Blank, Blanks, blankByte, putBlanks}
-use Rattle.encoding.specs.BytesLaws.{append-blanks}
+use Rattle.encoding.specs.Bytes.{In, putIn, Blank, Blanks, blankByte, putBlanks}
+use Rattle.encoding.specs.BytesLaws.{append-in, append-blanks}
 use Rattle.encoding.specs.Utf8Laws.{append-wide}
 use Rattle.query.specs.Grammar as G
-use Rattle.query.specs.Grammar.{First, Later, Quote, Char, quoteByte, Short, Inner, Depth, Segment, Spaced, Query}
+use Rattle.query.specs.Grammar.{First, Later, Quote, Char, quoteByte, Position, Short, Inner, Depth, Segment, Spaced, Query}
 use Rattle.query.specs.Grammar.{putFirst, putLater, putLaters, putChar, putChars, putShort, putInner, putDots, putDeep, putSegment}
-use Rattle.query.specs.Grammar.{putSpaced, putQuery}
+use Rattle.query.specs.Grammar.{putPosition, putSpaced, putQuery}
 
 -- bytes appended to what stands after x are appended to the whole
 
@@ -46,10 +46,16 @@ unfolding putShort
 append-short Short.star s u = refl
 append-short (G.shorthand x cs) s u = ap (putFirst x) (append-laters cs s u) ∙ append-first x (putLaters cs s) u
 
+pub append-position : (p : Position) (s u : List ℕ) → putPosition p (s ++ u) ≡ putPosition p s ++ u
+unfolding putPosition
+append-position G.zero s u = refl
+append-position (G.digits d ds) s u = ap (λ (x : List ℕ). d .byte ∷ x) (append-in ds s u)
+
 pub append-inner : (i : Inner) (s u : List ℕ) → putInner i (s ++ u) ≡ putInner i s ++ u
 unfolding putInner
 append-inner Inner.star s u = refl
 append-inner (G.quoted q cs) s u = ap (λ (x : List ℕ). quoteByte q ∷ x) (append-chars cs (quoteByte q ∷ s) u)
+append-inner (G.position p small) s u = append-position p s u
 
 pub append-dots : (d : Depth) (s u : List ℕ) → putDots d (s ++ u) ≡ putDots d s ++ u
 unfolding putDots
@@ -96,3 +102,8 @@ pub chars-more : {q : Quote} (cs : List (Char q)) (c : Char q) (s : List ℕ) �
 unfolding putChars
 chars-more [] c s = refl
 chars-more (x ∷ cs) c s = ap (putChar x) (chars-more cs c s)
+
+pub digits-more : (ds : List (In 0x30 0x39)) (d : In 0x30 0x39) (s : List ℕ) → putIn (ds ++ d ∷ []) s ≡ putIn ds (d .byte ∷ s)
+unfolding putIn
+digits-more [] d s = refl
+digits-more (x ∷ ds) d s = ap (λ (u : List ℕ). x .byte ∷ u) (digits-more ds d s)

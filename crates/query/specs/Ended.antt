@@ -6,7 +6,7 @@ use mathlib.Core.Bool.{Bool, true, false}
 use Prim.Native.Nat.{ℕ, suc}
 use Rattle.query.specs.Grammar as G
 use Rattle.query.specs.Machine as M
-use Rattle.query.specs.Machine.{Control, root, done, gap, opened, closing, inside, tailDue, State, dead, beginRules, step, final}
+use Rattle.query.specs.Machine.{Control, root, done, gap, opened, closing, inPosition, inside, tailDue, State, dead, beginRules, step, final}
 use Rattle.query.specs.Read.{begin, Placed, named, Reading, good, bad, note, reading}
 use Rattle.query.specs.MachineLaws.{Lives, every-pick}
 use Rattle.query.specs.Spell as P
@@ -26,6 +26,7 @@ Begins (M.dotted G.plain) = Unit {0}
 Begins (M.dotted G.deep) = ⊥
 Begins opened = Unit {0}
 Begins closing = ⊥
+Begins (inPosition v) = ⊥
 Begins (inside h) = ⊥
 Begins (tailDue p n h) = ⊥
 
@@ -44,6 +45,7 @@ ended-state n b s (M.at (M.dotted G.plain)) e l again = subst Ended (sym (P.turn
 ended-state n b s (M.at (M.dotted G.deep)) e l again = absurd l
 ended-state n b s (M.at opened) e l again = subst Ended (sym (P.turn gap opened n b s e)) (ended-begin n b (reading opened (suc n) s))
 ended-state n b s (M.at closing) e l again = absurd l
+ended-state n b s (M.at (inPosition v)) e l again = absurd l
 ended-state n b s (M.at (inside h)) e l again = absurd l
 ended-state n b s (M.at (tailDue p k h)) e l again = absurd l
 

@@ -2,8 +2,9 @@
 use mathlib.Core.Path.{_≡_}
 use mathlib.Core.List.{List, [], _∷_}
 use mathlib.Core.Bool.{Bool, true, false}
-use Prim.Native.Nat.{ℕ}
-use Rattle.encoding.specs.Bytes.{In, Blanks, putBlanks}
+use Prim.Native.Nat.{ℕ, _≤_}
+use Rattle.encoding.specs.Bytes.{In, putIn, Blanks, putBlanks}
+use Rattle.encoding.specs.Decimal.{valueOf}
 use Rattle.encoding.specs.Utf8.{Wide, putWide}
 use Rattle.query.specs.Steps.{Selector, Step}
 use Rattle.query.specs.Steps as S
@@ -45,15 +46,35 @@ pub data Char (q : Quote) : Type 0 where
   high : In 0x5D 0x7F → Char q
   wide : Wide → Char q
 
+-- a position (RFC 9535 §2.3.3, without the minus sign): "0" / (DIGIT1 *DIGIT)
+pub data Position : Type 0 where
+  zero : Position
+  digits : In 0x31 0x39 → List (In 0x30 0x39) → Position
+
+unfoldable pub putPosition : Position → List ℕ → List ℕ
+unfolding putIn
+putPosition zero s = 0x30 ∷ s
+putPosition (digits d ds) s = d .byte ∷ putIn ds s
+
+-- the number that its digits stand for
+unfoldable pub positionOf : Position → ℕ
+unfolding putPosition valueOf
+positionOf p = valueOf (putPosition p [])
+
+-- 2^53 - 1, the largest integer of RFC 9535 §2.1
+abbrev pub maxPosition : ℕ
+maxPosition = 9007199254740991
+
 -- what a step takes, behind `.` or `..`: member-name-shorthand / wildcard-selector
 pub data Short : Type 0 where
   star : Short
   shorthand : First → List Later → Short
 
--- and in brackets: name-selector / wildcard-selector
+-- and in brackets: name-selector / wildcard-selector / index-selector
 pub data Inner : Type 0 where
   star : Inner
   quoted : (q : Quote) → List (Char q) → Inner
+  position : (p : Position) → positionOf p ≤ maxPosition → Inner
 
 -- a plain step, or a deep one, written with `..`
 pub data Depth : Type 0 where
@@ -109,9 +130,10 @@ putShort star s = 0x2A ∷ s
 putShort (shorthand x cs) s = putFirst x (putLaters cs s)
 
 unfoldable pub putInner : Inner → List ℕ → List ℕ
-unfolding putChars
+unfolding putChars putPosition
 putInner star s = 0x2A ∷ s
 putInner (quoted q cs) s = quoteByte q ∷ putChars cs (quoteByte q ∷ s)
+putInner (position p small) s = putPosition p s
 
 -- before a shorthand name or `*`; `..` alone stands before brackets
 unfoldable pub putDots : Depth → List ℕ → List ℕ
@@ -156,9 +178,10 @@ shortSelector star = S.every
 shortSelector (shorthand x cs) = S.name (putFirst x (putLaters cs []))
 
 unfoldable pub innerSelector : Inner → Selector
-unfolding putChars
+unfolding putChars positionOf
 innerSelector star = S.every
 innerSelector (quoted q cs) = S.name (putChars cs [])
+innerSelector (position p small) = S.position (positionOf p)
 
 unfoldable pub segmentStep : Segment → Step
 unfolding shortSelector innerSelector

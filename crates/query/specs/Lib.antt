@@ -6,6 +6,7 @@ pub mod Grammar
 pub mod Machine
 pub mod MachineLaws
 pub mod Place
+pub mod Positions
 pub mod Read
 pub mod Says
 pub mod Sound

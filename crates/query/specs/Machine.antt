@@ -1,10 +1,10 @@
 -- The query grammar as a machine that takes one byte at a time: from each control state, the bytes that lead on, and where to.
 use mathlib.Core.List.{List, [], _∷_}
 use mathlib.Core.Bool.{Bool, true, false, _&&_}
-use Prim.Native.Nat.{ℕ, zero, suc}
+use Prim.Native.Nat.{ℕ, zero, suc, _+_, _*_}
 use lib.Dec.{leb}
 use Rattle.encoding.specs.Utf8.{Second, anyTail, afterE0, afterED, afterF0, afterF4, secondLow, secondHigh}
-use Rattle.query.specs.Grammar.{Quote, single, double, quoteByte, beforeQuote, afterQuote, Depth, plain, deep}
+use Rattle.query.specs.Grammar.{Quote, single, double, quoteByte, beforeQuote, afterQuote, maxPosition, Depth, plain, deep}
 
 -- which name is being read: a shorthand one, or one in quotes
 pub data Home : Type 0 where
@@ -16,8 +16,9 @@ pub data Control : Type 0 where
   done : Control  -- after `$`, or after a step that ends with its last byte
   gap : Control  -- after blanks before a step
   dotted : Depth → Control  -- after `.` or `..`
-  opened : Control  -- in brackets, before the name or `*`
+  opened : Control  -- in brackets, before the name, the position or `*`
   closing : Control  -- in brackets, after it
+  inPosition : ℕ → Control  -- in a position whose digits so far stand for this number
   inside : Home → Control  -- in a name
   tailDue : Second → ℕ → Home → Control  -- in a code point of a name: its second byte is due, and then so many of 80-BF
 
@@ -75,9 +76,30 @@ dotRule deep = only 0x5B opened
 abbrev pub dotRules : Depth → List Rule
 dotRules d = only 0x2A done ∷ dotRule d ∷ []
 
--- `*` and the quotes that begin a name in brackets
+-- a rule that is there only where the test holds
+unfoldable pub ruleIf : Bool → Rule → List Rule → List Rule
+ruleIf true r rs = r ∷ rs
+ruleIf false r rs = rs
+
+-- a number within the maximum
+abbrev pub fits : ℕ → Bool
+fits n = leb n maxPosition
+
+-- one digit more behind those that stand for v: of the digits below n, those with which the number fits
+unfoldable pub digitRules : (v n : ℕ) → List Rule
+unfolding ruleIf
+digitRules v zero = []
+digitRules v (suc d) = ruleIf (fits (v * 10 + d)) (only (0x30 + d) (inPosition (v * 10 + d))) (digitRules v d)
+
+-- behind a first 0 there is none
+unfoldable pub moreDigits : ℕ → List Rule
+unfolding digitRules
+moreDigits zero = []
+moreDigits (suc v) = digitRules (suc v) 10
+
+-- `*`, the quotes that begin a name in brackets, and the first digit of a position
 abbrev pub innerRules : List Rule
-innerRules = only 0x2A closing ∷ only 0x27 (inside (quoted single)) ∷ only 0x22 (inside (quoted double)) ∷ []
+innerRules = only 0x2A closing ∷ only 0x27 (inside (quoted single)) ∷ only 0x22 (inside (quoted double)) ∷ digitRules 0 10
 
 -- the bytes below 80 of a quoted name, and its closing quote
 abbrev pub charRules : Quote → List Rule
@@ -98,6 +120,7 @@ rules gap = beginRules
 rules (dotted d) = firstRules (dotRules d)
 rules opened = blankRules opened innerRules
 rules closing = blankRules closing (only 0x5D done ∷ [])
+rules (inPosition v) = blankRules closing (only 0x5D done ∷ moreDigits v)
 rules (inside short) = firstRules (range 0x30 0x39 (inside short) ∷ beginRules)
 rules (inside (quoted q)) = wideRules (quoted q) (charRules q)
 rules (tailDue p n h) = range (secondLow p) (secondHigh p) (tailsDue n h) ∷ []
@@ -110,7 +133,7 @@ pick [] b = dead
 pick (r ∷ rs) b = elim (takes r b) [ true ↦ at (r .to) | false ↦ pick rs b ]
 
 unfoldable pub step : State → ℕ → State
-unfolding pick
+unfolding pick moreDigits
 step dead b = dead
 step (at c) b = pick (rules c) b
 
@@ -133,6 +156,7 @@ final gap = false
 final (dotted d) = false
 final opened = false
 final closing = false
+final (inPosition v) = false
 final (inside short) = true
 final (inside (quoted q)) = false
 final (tailDue p n h) = false

@@ -1,5 +1,5 @@
 -- Laws of the machine's tables: where a table leads all bytes of a range, by computing; and what holds of every rule. Assumes nothing.
-use mathlib.Core.Path.{_≡_, refl, _∙_}
+use mathlib.Core.Path.{_≡_, refl, ap, _∙_}
 use mathlib.Core.List.{List, [], _∷_, _++_}
 use mathlib.Core.Bool.{Bool, true, false, _&&_, _||_}
 use mathlib.Core.Option.{Option, some, none}
@@ -77,6 +77,12 @@ passes l h [] us t = refl
 passes {lo} {hi} {b} l h (r ∷ rs) us t =
     miss r (rs ++ us) b (passed l h r (and-left (parted r lo hi) (allParted lo hi rs) t)) ∙
     passes l h rs us (and-right (parted r lo hi) (allParted lo hi rs) t)
+
+-- rules that do not have the byte may be left off the end
+pub trims : (rs us : List Rule) (b : ℕ) → pick us b ≡ dead → pick (rs ++ us) b ≡ pick rs b
+unfolding pick
+trims [] us b e = e
+trims (r ∷ rs) us b e = ap (λ (m : State). elim (takes r b) as (λ _. State) [ true ↦ at (r .to) | false ↦ m ]) (trims rs us b e)
 
 -- a byte above every rule is dead
 unfoldable pub allUnder : ℕ → List Rule → Bool

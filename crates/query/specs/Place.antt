@@ -13,7 +13,7 @@ use Rattle.query.specs.Grammar as G
 use Rattle.query.specs.Grammar.{Query, QueryText, text}
 use Rattle.query.specs.Machine as M
 use Rattle.query.specs.Machine.{Home, short, quoted, Control, root, done, gap, opened}
-use Rattle.query.specs.Machine.{closing, inside, tailDue, tailsDue, State, dead, at, step, run, place, final, accept, start}
+use Rattle.query.specs.Machine.{closing, inPosition, inside, tailDue, tailsDue, State, dead, at, step, run, place, final, accept, start}
 use Rattle.query.specs.Read.{Event, Ahead, named, Reading, good, bad, note, event, reading}
 use Rattle.query.specs.Text.{reads-text}
 use Rattle.query.specs.Sound.{sound}
@@ -82,6 +82,7 @@ viable gap = (0x2E ∷ 0x2A ∷ [], refl)
 viable (M.dotted d) = (0x2A ∷ [], refl)
 viable opened = (0x2A ∷ 0x5D ∷ [], refl)
 viable closing = (0x5D ∷ [], refl)
+viable (inPosition v) = (0x5D ∷ [], refl)
 viable (inside h) = complete-name h
 viable (tailDue anyTail n h) = let r = complete-tails n h in (0x80 ∷ r .0, r .1)
 viable (tailDue afterE0 n h) = let r = complete-tails n h in (0xA0 ∷ r .0, r .1)

@@ -6,7 +6,7 @@ use Prim.Native.Nat.{ℕ, suc}
 use Rattle.query.specs.Grammar.{plain, deep}
 use Rattle.query.specs.Steps.{Selector, Step}
 use Rattle.query.specs.Steps as S
-use Rattle.query.specs.Machine.{Control, root, done, gap, dotted, opened, closing, inside, tailDue, dead, at, step, final}
+use Rattle.query.specs.Machine.{Control, root, done, gap, dotted, opened, closing, inPosition, inside, tailDue, dead, at, step, final}
 
 -- what a byte says of the step that it stands in
 pub data Event : Type 0 where
@@ -14,6 +14,7 @@ pub data Event : Type 0 where
   begin : Event  -- the step begins here
   deepen : Event  -- it is deep
   every : Event  -- it takes `*`
+  position : ℕ → Event  -- it takes this position
   letter : Event  -- this byte is one of its name
 
 -- behind `.` or `..`, and behind an opening bracket
@@ -24,6 +25,7 @@ isDotted gap = false
 isDotted (dotted d) = true
 isDotted opened = false
 isDotted closing = false
+isDotted (inPosition v) = false
 isDotted (inside h) = false
 isDotted (tailDue p n h) = false
 
@@ -34,18 +36,32 @@ isOpened gap = false
 isOpened (dotted d) = false
 isOpened opened = true
 isOpened closing = false
+isOpened (inPosition v) = false
 isOpened (inside h) = false
 isOpened (tailDue p n h) = false
+
+-- what a byte says that leads behind what a step takes: `*` follows dots or an opening bracket, and a position is whole before the byte
+abbrev pub takenBehind : Control → Event
+takenBehind root = keep
+takenBehind done = keep
+takenBehind gap = keep
+takenBehind (dotted d) = every
+takenBehind opened = every
+takenBehind closing = keep
+takenBehind (inPosition v) = position v
+takenBehind (inside h) = keep
+takenBehind (tailDue p n h) = keep
 
 -- what the byte says that leads from the first control state to the second
 abbrev pub event : Control → Control → Event
 event c root = keep
-event c done = elim (isDotted c) [ true ↦ every | false ↦ keep ]
+event c done = takenBehind c
 event c gap = keep
 event c (dotted plain) = begin
 event c (dotted deep) = deepen
 event c opened = elim (isDotted c || isOpened c) [ true ↦ keep | false ↦ begin ]
-event c closing = elim (isOpened c) [ true ↦ every | false ↦ keep ]
+event c closing = takenBehind c
+event c (inPosition v) = keep
 event c (inside h) = elim (isOpened c) [ true ↦ keep | false ↦ letter ]
 event c (tailDue p n h) = letter
 
@@ -78,6 +94,7 @@ noted keep n b a = a
 noted begin n b a = named [] (record { place = n; step = a .this } ∷ a .later)
 noted deepen n b a = record { this = record { deep = true; selector = a .this .selector }; later = a .later }
 noted every n b a = record { this = record { deep = a .this .deep; selector = S.every }; later = a .later }
+noted (position j) n b a = record { this = record { deep = a .this .deep; selector = S.position j }; later = a .later }
 noted letter n b a =
     record { this = record { deep = a .this .deep; selector = S.name (b ∷ nameBytes (a .this .selector)) }; later = a .later }
 

@@ -1,25 +1,27 @@
 -- What the machine accepts is the text of a query: `Rest c s`, that s completes a query from the control state c,
 -- goes back over each rule of the tables, from the last byte to the first. Assumes nothing.
-use mathlib.Core.Path.{_≡_, refl}
+use mathlib.Core.Path.{_≡_, refl, subst}
 use mathlib.Core.List.{List, [], _∷_}
 use mathlib.Core.Bool.{Bool, true, false}
-use Prim.Native.Nat.{ℕ, zero, suc}
+use Prim.Native.Nat.{ℕ, zero, suc, _+_, _*_, _≤_, _<_}
 use native.Mathlib.Omega.{arith}
 use Rattle.bits.specs.Truth.{to-T}
 use Rattle.encoding.specs.Bytes as B
-use Rattle.encoding.specs.Bytes.{In, Blank, Blanks, blankByte, putBlanks}
-use Rattle.encoding.specs.BytesLaws.{from-low, to-high, Then, then}
+use Rattle.encoding.specs.Bytes.{In, putIn, Blank, Blanks, blankByte, putBlanks}
+use Rattle.encoding.specs.BytesLaws.{make, from-low, to-high, Then, then}
+use Rattle.encoding.specs.Decimal.{readOn}
 use Rattle.encoding.specs.Utf8 as U
 use Rattle.encoding.specs.Utf8.{Wide, putWide, anyTail, secondLow, secondHigh}
 use Rattle.encoding.specs.Utf8Laws.{Tails}
 use Rattle.query.specs.Grammar as G
-use Rattle.query.specs.Grammar.{First, Later, Quote, Char, quoteByte, Short, Inner, Depth, Segment, Query, QueryText}
+use Rattle.query.specs.Grammar.{First, Later, Quote, Char, quoteByte, positionOf, maxPosition, Short, Inner, Depth, Segment, Query, QueryText}
 use Rattle.query.specs.Grammar.{putFirst, putLaters, putChar, putChars, putShort, putInner, putSegment, putSpaced, putQuery, text}
 use Rattle.query.specs.Machine as M
 use Rattle.query.specs.Machine.{Home, short, quoted, Control, root, done, gap, opened, closing}
-use Rattle.query.specs.Machine.{inside, tailDue, State, dead, at}
+use Rattle.query.specs.Machine.{inPosition, inside, tailDue, State, dead, at}
 use Rattle.query.specs.Machine.{Rule, range, only, wideRules, letterRules, firstRules, stepRules, beginRules, dotRules, innerRules, charRules}
-use Rattle.query.specs.Machine.{rules, takes, pick, step, run, final, accept, start}
+use Rattle.query.specs.Machine.{ruleIf, fits, digitRules, moreDigits, rules, takes, pick, step, run, final, accept, start}
+use Rattle.query.specs.Positions.{fits-within}
 
 -- what completes a query, by where the machine is
 
@@ -46,6 +48,11 @@ data Shorthand : List ℕ → Type 0 where
 data Quoted (q : Quote) : List ℕ → Type 0 where
   chars : {u : List ℕ} (cs : List (Char q)) → Closing u → Quoted q (putChars cs (quoteByte q ∷ u))
 
+-- behind digits that stand for v: more of them, but none behind a first 0, and the end of the brackets
+data Digits (v : ℕ) : List ℕ → Type 0 where
+  more : {u : List ℕ} (ds : List (In 0x30 0x39)) → (v ≡ 0 → ds ≡ []) → (v ≤ maxPosition → readOn v (putIn ds []) ≤ maxPosition) → Closing u →
+      Digits v (putIn ds u)
+
 abbrev Inside : Home → List ℕ → Type 0
 Inside short = Shorthand
 Inside (quoted q) = Quoted q
@@ -60,6 +67,7 @@ Rest gap = Gap
 Rest (M.dotted d) = Dotted d
 Rest opened = Opened
 Rest closing = Closing
+Rest (inPosition v) = Digits v
 Rest (inside h) = Inside h
 Rest (tailDue p n h) = Then (secondLow p) (secondHigh p) (Tails n (Inside h))
 
@@ -207,6 +215,47 @@ opened-quote : (q : Quote) (s : List ℕ) → Quoted q s → Opened (quoteByte q
 unfolding putBlanks putInner
 opened-quote q s (chars cs (closes w t)) = opens [] (G.quoted q cs) w t
 
+-- a rule that may be there
+back-if : (L : List ℕ → Type 0) (x : Bool) (n : ℕ) (c : Control) (rs : List Rule) → (x ≡ true → (s : List ℕ) → Rest c s → L (n ∷ s)) →
+    Backs L rs → Backs L (ruleIf x (only n c) rs)
+unfolding ruleIf
+back-if L true n c rs f r = (one n c L (f refl), r)
+back-if L false n c rs f r = r
+
+-- a position's digits
+back-digits : (L : List ℕ → Type 0) (v n : ℕ) →
+    ((d : ℕ) → d < n → v * 10 + d ≤ maxPosition → (s : List ℕ) → Digits (v * 10 + d) s → L ((0x30 + d) ∷ s)) → Backs L (digitRules v n)
+unfolding digitRules
+back-digits L v zero f = tt
+back-digits L v (suc d) f =
+    back-if L (fits (v * 10 + d)) (0x30 + d) (inPosition (v * 10 + d)) (digitRules v d) (λ e. f d (omega arith) (fits-within (v * 10 + d) e))
+    (back-digits L v d (λ k h. f k (omega arith)))
+
+no-more : (v : ℕ) (s : List ℕ) → Closing s → Digits v s
+unfolding putIn readOn
+no-more v s x = more [] (λ e. refl) (λ m. m) x
+
+-- the same number behind which digits stand
+stands-for : (s : List ℕ) {m n : ℕ} → m ≡ n → readOn m s ≤ maxPosition → readOn n s ≤ maxPosition
+stands-for s e h = subst (λ (k : ℕ). readOn k s ≤ maxPosition) e h
+
+digit-more : (v d : ℕ) → 0 < v → d < 10 → v * 10 + d ≤ maxPosition → (s : List ℕ) → Digits (v * 10 + d) s → Digits v ((0x30 + d) ∷ s)
+unfolding putIn readOn make
+digit-more v d p h m s (more ds f g x) =
+    more (make (0x30 + d) (omega arith) (omega arith) ∷ ds) (λ z. absurd (omega arith)) (λ l. stands-for (putIn ds []) (omega arith) (g m)) x
+
+back-more : (v : ℕ) → Backs (Digits v) (moreDigits v)
+unfolding moreDigits
+back-more zero = tt
+back-more (suc v) = back-digits (Digits (suc v)) (suc v) 10 (λ d. digit-more (suc v) d (omega arith))
+
+opened-digit : (d : ℕ) → d < 10 → (s : List ℕ) → Digits (0 * 10 + d) s → Opened ((0x30 + d) ∷ s)
+unfolding putBlanks putInner positionOf readOn make
+opened-digit zero h s (more ds f g (closes w t)) = rw (f refl) (opens [] (G.position G.zero (omega arith)) w t)
+opened-digit (suc d) h s (more ds f g (closes w t)) =
+    let x : In 0x31 0x39 = make (0x30 + suc d) (omega arith) (omega arith) in
+    opens [] (G.position (G.digits x ds) (stands-for (putIn ds []) (omega arith) (g (omega arith)))) w t
+
 closing-done : (s : List ℕ) → Done s → Closing (0x5D ∷ s)
 unfolding putBlanks
 closing-done s (steps t) = closes [] t
@@ -243,10 +292,12 @@ back opened =
       one 0x2A closing Opened opened-star,
       (
         one 0x27 (inside (quoted G.single)) Opened (opened-quote G.single),
-        (one 0x22 (inside (quoted G.double)) Opened (opened-quote G.double), tt),
+        (one 0x22 (inside (quoted G.double)) Opened (opened-quote G.double), back-digits Opened 0 10 (λ d h m. opened-digit d h)),
       ),
     )
 back closing = back-blanks closing Closing (only 0x5D done ∷ []) blank-closing (one 0x5D done Closing closing-done, tt)
+back (inPosition v) = back-blanks closing (Digits v) (only 0x5D done ∷ moreDigits v) (λ b s x. no-more v (blankByte b ∷ s) (blank-closing b s x))
+    (one 0x5D done (Digits v) (λ s x. no-more v (0x5D ∷ s) (closing-done s x)), back-more v)
 back (inside short) = back-first Shorthand (range 0x30 0x39 (inside short) ∷ beginRules) shorthand-first
     (shorthand-digit, widen Gap Shorthand beginRules (λ s x. done-shorthand s (gap-done s x)) back-gap)
 back (inside (quoted q)) = back-quoted q
@@ -270,6 +321,7 @@ rest-nil gap e = absurd (to-T e)
 rest-nil (M.dotted d) e = absurd (to-T e)
 rest-nil opened e = absurd (to-T e)
 rest-nil closing e = absurd (to-T e)
+rest-nil (inPosition v) e = absurd (to-T e)
 rest-nil (inside short) e = done-shorthand [] over
 rest-nil (inside (quoted q)) e = absurd (to-T e)
 rest-nil (tailDue p n h) e = absurd (to-T e)

@@ -16,10 +16,9 @@ use Rattle.query.specs.Grammar.{First, Later, Quote, Char}
 use Rattle.query.specs.Grammar.{putFirst, putLater, putLaters, putChar, putChars}
 use Rattle.query.specs.Machine as M
 use Rattle.query.specs.Machine.{Home, short, quoted}
-use Rattle.query.specs.Machine.{Control, root, done, gap, opened, closing, inside, tailDue, State, dead, at, Rule, range, rules}
-use Rattle.query.specs.Machine.{wideRules, firstRules, tailsDue, step}
-use Rattle.query.specs.Read as R
-use Rattle.query.specs.Read.{Event, keep, begin, letter, isDotted, isOpened, event, Placed, named, Reading, good, bad, note, reading}
+use Rattle.query.specs.Machine.{Control, root, done, gap, opened, closing, inPosition, inside, tailDue, State, dead, at, Rule, range}
+use Rattle.query.specs.Machine.{wideRules, firstRules, tailsDue, rules, step}
+use Rattle.query.specs.Read.{Event, keep, begin, letter, isDotted, isOpened, takenBehind, event, Placed, named, Reading, good, bad, note, reading}
 use Rattle.query.specs.MachineLaws.{hit, landing, leads-in}
 use Rattle.query.specs.Append.{append-later, append-char}
 
@@ -161,29 +160,30 @@ spells-chars q (c ∷ cs) = rw (append-char c [] (putChars cs []))
 
 -- two control states that lead on alike
 
-event-alike : (c d : Control) → isDotted c ≡ isDotted d → isOpened c ≡ isOpened d → (k : Control) → event c k ≡ event d k
-event-alike c d p q root = refl
-event-alike c d p q done = ap (λ (x : Bool). elim x as (λ _. Event) [ true ↦ R.every | false ↦ keep ]) p
-event-alike c d p q gap = refl
-event-alike c d p q (M.dotted G.plain) = refl
-event-alike c d p q (M.dotted G.deep) = refl
-event-alike c d p q opened = ap₂ (λ (x y : Bool). elim (x || y) as (λ _. Event) [ true ↦ keep | false ↦ begin ]) p q
-event-alike c d p q closing = ap (λ (x : Bool). elim x as (λ _. Event) [ true ↦ R.every | false ↦ keep ]) q
-event-alike c d p q (inside h) = ap (λ (x : Bool). elim x as (λ _. Event) [ true ↦ keep | false ↦ letter ]) q
-event-alike c d p q (tailDue z m h) = refl
+event-alike : (c d : Control) → isDotted c ≡ isDotted d → isOpened c ≡ isOpened d → takenBehind c ≡ takenBehind d → (k : Control) → event c k ≡ event d k
+event-alike c d p q r root = refl
+event-alike c d p q r done = r
+event-alike c d p q r gap = refl
+event-alike c d p q r (M.dotted G.plain) = refl
+event-alike c d p q r (M.dotted G.deep) = refl
+event-alike c d p q r opened = ap₂ (λ (x y : Bool). elim (x || y) as (λ _. Event) [ true ↦ keep | false ↦ begin ]) p q
+event-alike c d p q r closing = r
+event-alike c d p q r (inPosition v) = refl
+event-alike c d p q r (inside h) = ap (λ (x : Bool). elim x as (λ _. Event) [ true ↦ keep | false ↦ letter ]) q
+event-alike c d p q r (tailDue z m h) = refl
 
-pub alike : (c d : Control) → isDotted c ≡ isDotted d → isOpened c ≡ isOpened d → (n b : ℕ) (s : List ℕ) → step (at c) b ≡ step (at d) b →
-    reading c n (b ∷ s) ≡ reading d n (b ∷ s)
-alike c d p q n b s e = go (step (at d) b) e refl
+pub alike : (c d : Control) → isDotted c ≡ isDotted d → isOpened c ≡ isOpened d → takenBehind c ≡ takenBehind d → (n b : ℕ) (s : List ℕ) →
+    step (at c) b ≡ step (at d) b → reading c n (b ∷ s) ≡ reading d n (b ∷ s)
+alike c d p q r n b s e = go (step (at d) b) e refl
   where
     go : (m : State) → step (at c) b ≡ m → step (at d) b ≡ m → reading c n (b ∷ s) ≡ reading d n (b ∷ s)
     go dead x y = stop c n b s x ∙ sym (stop d n b s y)
-    go (at k) x y = turn c k n b s x ∙ ap (λ (v : Event). note v n b (reading k (suc n) s)) (event-alike c d p q k) ∙ sym (turn d k n b s y)
+    go (at k) x y = turn c k n b s x ∙ ap (λ (v : Event). note v n b (reading k (suc n) s)) (event-alike c d p q r k) ∙ sym (turn d k n b s y)
 
 -- blanks or none before it, a step begins alike
 pub done-gap : (n b : ℕ) (s : List ℕ) → reading done n (b ∷ s) ≡ reading gap n (b ∷ s)
 unfolding step
-done-gap n b s = alike done gap refl refl n b s refl
+done-gap n b s = alike done gap refl refl refl n b s refl
 
 -- blanks
 

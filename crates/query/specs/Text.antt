@@ -11,14 +11,15 @@ use Rattle.encoding.specs.BytesLaws.{size, length-blanks}
 use Rattle.query.specs.Grammar as G
 use Rattle.query.specs.Grammar.{First, Later, Quote, quoteByte, Short, Inner, Depth, Segment, Query}
 use Rattle.query.specs.Grammar.{putFirst, putLaters, putChars, putShort, putInner, putDots, putDeep, putSegment, putSpaced, putQuery}
-use Rattle.query.specs.Grammar.{text, isDeep, shortSelector, innerSelector, segmentStep}
+use Rattle.query.specs.Grammar.{putPosition, positionOf, text, isDeep, shortSelector, innerSelector, segmentStep}
 use Rattle.query.specs.Steps.{Selector}
 use Rattle.query.specs.Machine as M
-use Rattle.query.specs.Machine.{short, quoted, root, done, gap, opened, closing, inside, at, step}
+use Rattle.query.specs.Machine.{short, quoted, root, done, gap, opened, closing, inPosition, inside, at, step}
 use Rattle.query.specs.Read as R
 use Rattle.query.specs.Read.{begin, deepen, Placed, taking, named, Reading, good, note, reading}
 use Rattle.query.specs.Spell.{turn, moved, kept, alike, done-gap, spell, spell-named, Spells, spells-append, spells-first}
 use Rattle.query.specs.Spell.{spells-laters, spells-chars, reads-blanks, blank-gap, blank-opened, blank-closing}
+use Rattle.query.specs.Positions.{reads-behind, reads-position}
 use Rattle.query.specs.Append.{append-first, append-laters, append-chars, append-inner, append-dots, append-deep}
 
 -- steps with this one before them
@@ -53,14 +54,14 @@ reads-bracket G.deep n u x l e =
 over-blanks : (w : Blanks) (g : Segment) (n : ℕ) (u : List ℕ) →
     reading (inside short) n (putBlanks w (putSegment g u)) ≡ reading done n (putBlanks w (putSegment g u))
 unfolding putBlanks putSegment step
-over-blanks [] (G.dotted G.plain x) n u = alike (inside short) done refl refl n _ _ refl
-over-blanks [] (G.dotted G.deep x) n u = alike (inside short) done refl refl n _ _ refl
-over-blanks [] (G.bracketed G.plain w i w′) n u = alike (inside short) done refl refl n _ _ refl
-over-blanks [] (G.bracketed G.deep w i w′) n u = alike (inside short) done refl refl n _ _ refl
-over-blanks (B.space ∷ w) g n u = alike (inside short) done refl refl n _ _ refl
-over-blanks (B.tab ∷ w) g n u = alike (inside short) done refl refl n _ _ refl
-over-blanks (B.feed ∷ w) g n u = alike (inside short) done refl refl n _ _ refl
-over-blanks (B.return ∷ w) g n u = alike (inside short) done refl refl n _ _ refl
+over-blanks [] (G.dotted G.plain x) n u = alike (inside short) done refl refl refl n _ _ refl
+over-blanks [] (G.dotted G.deep x) n u = alike (inside short) done refl refl refl n _ _ refl
+over-blanks [] (G.bracketed G.plain w i w′) n u = alike (inside short) done refl refl refl n _ _ refl
+over-blanks [] (G.bracketed G.deep w i w′) n u = alike (inside short) done refl refl refl n _ _ refl
+over-blanks (B.space ∷ w) g n u = alike (inside short) done refl refl refl n _ _ refl
+over-blanks (B.tab ∷ w) g n u = alike (inside short) done refl refl refl n _ _ refl
+over-blanks (B.feed ∷ w) g n u = alike (inside short) done refl refl refl n _ _ refl
+over-blanks (B.return ∷ w) g n u = alike (inside short) done refl refl refl n _ _ refl
 
 over : (t : Query) (n : ℕ) → reading (inside short) n (putQuery t []) ≡ reading done n (putQuery t [])
 unfolding putQuery putSpaced reading
@@ -99,19 +100,35 @@ unfolding step
 quote-closes G.single = refl
 quote-closes G.double = refl
 
-reads-inner : (i : Inner) (n : ℕ) (u : List ℕ) (l : List Placed) → reading closing (n + length (putInner i [])) u ≡ good (named [] l) →
-    reading opened n (putInner i u) ≡ good (taking (innerSelector i) l)
+-- behind a position stands no digit
+behind-position : (v : ℕ) (w : Blanks) (n : ℕ) (u : List ℕ) →
+    reading (inPosition v) n (putBlanks w (0x5D ∷ u)) ≡ note (R.position v) 0 0 (reading closing n (putBlanks w (0x5D ∷ u)))
+unfolding putBlanks
+behind-position v [] n u = reads-behind v n 0x5D u (λ p l h m. omega arith)
+behind-position v (B.space ∷ w) n u = reads-behind v n 0x20 _ (λ p l h m. omega arith)
+behind-position v (B.tab ∷ w) n u = reads-behind v n 0x09 _ (λ p l h m. omega arith)
+behind-position v (B.feed ∷ w) n u = reads-behind v n 0x0A _ (λ p l h m. omega arith)
+behind-position v (B.return ∷ w) n u = reads-behind v n 0x0D _ (λ p l h m. omega arith)
+
+reads-inner : (i : Inner) (n : ℕ) (w : Blanks) (u : List ℕ) (l : List Placed) →
+    reading closing (n + length (putInner i [])) (putBlanks w (0x5D ∷ u)) ≡ good (named [] l) →
+    reading opened n (putInner i (putBlanks w (0x5D ∷ u))) ≡ good (taking (innerSelector i) l)
 unfolding putInner innerSelector step
-reads-inner Inner.star n u l e = turn opened closing n 0x2A u refl ∙ ap (note R.every n 0x2A) (moved closing (suc n) (n + 1) u (omega arith) ∙ e)
-reads-inner (G.quoted q cs) n u l e =
+reads-inner Inner.star n w u l e =
+    turn opened closing n 0x2A (putBlanks w (0x5D ∷ u)) refl ∙ ap (note R.every n 0x2A) (moved closing (suc n) (n + 1) _ (omega arith) ∙ e)
+reads-inner (G.quoted q cs) n w u l e =
+    let x : List ℕ = putBlanks w (0x5D ∷ u) in
     kept opened (inside (quoted q)) n (quoteByte q) _ (quote-opens q) refl ∙
-    ap (reading (inside (quoted q)) (suc n)) (append-chars cs [] (quoteByte q ∷ u)) ∙
-    spells-chars q cs (suc n) (quoteByte q ∷ u) ∙
+    ap (reading (inside (quoted q)) (suc n)) (append-chars cs [] (quoteByte q ∷ x)) ∙
+    spells-chars q cs (suc n) (quoteByte q ∷ x) ∙
     ap (spell (putChars cs []))
-    (kept (inside (quoted q)) closing _ (quoteByte q) u (quote-closes q) refl ∙
-    moved closing _ (n + length (quoteByte q ∷ putChars cs (quoteByte q ∷ []))) u
+    (kept (inside (quoted q)) closing _ (quoteByte q) x (quote-closes q) refl ∙
+    moved closing _ (n + length (quoteByte q ∷ putChars cs (quoteByte q ∷ []))) x
     (omega (arith, size (putChars cs) (append-chars cs) (quoteByte q ∷ []))) ∙ e) ∙
     spell-named (putChars cs []) l
+reads-inner (G.position p small) n w u l e =
+    reads-position p n (putBlanks w (0x5D ∷ u)) small ∙ behind-position (positionOf p) w (n + length (putPosition p [])) u ∙
+    ap (note (R.position (positionOf p)) 0 0) e
 
 reads-closing : (w : Blanks) (n : ℕ) (u : List ℕ) (r : Reading) → reading done (n + length (putBlanks w (0x5D ∷ []))) u ≡ r →
     reading closing n (putBlanks w (0x5D ∷ u)) ≡ r
@@ -141,7 +158,7 @@ reads-segment (G.bracketed d w i w′) n t l e =
     ) in
     reads-bracket d n _ (innerSelector i) l
     (reads-blanks opened blank-opened refl w k _ ∙
-    reads-inner i (k + length w) _ l
+    reads-inner i (k + length w) w′ (putQuery t []) l
     (reads-closing w′ (k + length w + length (putInner i [])) (putQuery t []) _ (moved done _ _ (putQuery t []) sum ∙ e)))
 
 -- the steps of a query whose first byte after the `$` stands at n, each at its place

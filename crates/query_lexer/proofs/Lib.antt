@@ -1,4 +1,5 @@
 pub mod Blanks
 pub mod Letters
 pub mod Names
+pub mod Positions
 pub mod Wides

@@ -131,7 +131,7 @@ module _ (q : List ℕ) (i : ℕ) (h : i < length q) where
       same-done : step (M.at (inside short)) (getD q i 0) ≡ step (M.at done) (getD q i 0) →
           reading (inside short) i (drop i q) ≡ reading done i (drop i q)
       same-done f =
-          ap (reading (inside short) i) (byte-at q i h) ∙ alike (inside short) done refl refl i (getD q i 0) (drop (i + 1) q) f ∙
+          ap (reading (inside short) i) (byte-at q i h) ∙ alike (inside short) done refl refl refl i (getD q i 0) (drop (i + 1) q) f ∙
           ap (reading done i) (sym (byte-at q i h))
 
   -- a digit may not come first

@@ -2,13 +2,15 @@
 use mathlib.Core.Path.{_≡_}
 use mathlib.Core.List.{List}
 use mathlib.Core.Bool.{Bool, true, false}
-use Prim.Native.Nat.{ℕ, _≤_, _<_}
+use Prim.Native.Nat.{ℕ, _+_, _-_, _*_, _≤_, _<_}
 use lib.ListN.{length, getD, drop}
 use lib.Seq.{slice}
 use Rattle.encoding.specs.Bytes.{Blank, Blanks, blankByte, putBlanks}
 use Rattle.query.specs.Grammar.{First, Later, Char, Quote, quoteByte, Depth, plain, deep, putFirst, putLater, putLaters, putChar, putChars}
-use Rattle.query.specs.Machine.{Control, dotted, inside, short, quoted, done}
-use Rattle.query.specs.Read.{Reading, bad, reading}
+use Rattle.query.specs.Grammar.{Position, putPosition, positionOf, maxPosition}
+use Rattle.query.specs.Machine.{Control, dotted, opened, closing, inside, short, quoted, done}
+use Rattle.query.specs.Read.{position, Reading, bad, note, reading}
+use Rattle.query.specs.Positions.{NoMore}
 use Rattle.query.specs.Spell.{spell}
 
 -- whether a byte is a blank
@@ -86,3 +88,27 @@ pub record QuotedName (q : List ℕ) (quote at : ℕ) (ok : Bool) (r : ℕ) : Ty
   pub closed : ok ≡ true → (at ≤ r) × (r < length q) × (getD q r 0 ≡ quote)
   pub stand : ok ≡ true → (x : Quote) → quote ≡ quoteByte x → (cs : List (Char x)) × (putChars cs (drop r q) ≡ drop at q)
   pub reads : (x : Quote) → quote ≡ quoteByte x → reading (inside (quoted x)) at (drop at q) ≡ spelt q (inside (quoted x)) at ok r
+
+-- DIGIT
+pub record IsDigit (b : ℕ) : Type 0 where
+  pub low : 0x30 ≤ b
+  pub high : b ≤ 0x39
+
+-- whether a byte is one
+pub data DigitIs (b : ℕ) : Bool → Type 0 where
+  is-digit : IsDigit b → DigitIs b true
+  no-digit : (0x30 ≤ b → b ≤ 0x39 → ⊥) → DigitIs b false
+
+-- whether b is one digit more of a position, behind those that stand for v
+pub data LeadsOn (v b : ℕ) : Bool → Type 0 where
+  more : 0 < v → IsDigit b → v * 10 + (b - 0x30) ≤ maxPosition → LeadsOn v b true
+  none : NoMore v b → LeadsOn v b false
+
+-- the position whose first digit stands at `at`: its digits up to r, which stand for v. Behind them it is whole: what is read from its first
+-- digit on is what is read where the brackets are to be closed, and that the step takes position v.
+pub record PositionAt (q : List ℕ) (at r v : ℕ) : Type 0 where
+  pub on : at < r
+  pub within : r ≤ length q
+  pub stands : (p : Position) × (putPosition p (drop r q) ≡ drop at q) × (positionOf p ≡ v)
+  pub small : v ≤ maxPosition
+  pub reads : reading opened at (drop at q) ≡ note (position v) 0 0 (reading closing r (drop r q))

@@ -1,10 +1,13 @@
-// Scanners over a query's bytes: blanks, and the two kinds of names.
+// Scanners over a query's bytes: blanks, the two kinds of names, and positions.
 use encoding::Rows;
 use encoding::Scan;
-ghost use Prim.Native.Nat.{_≤_, _<_};
-ghost use lib.ListN.{length};
+ghost use mathlib.Core.Path.{_≡_};
+ghost use Prim.Native.Nat.{_+_, _-_, _*_, _≤_, _<_};
+ghost use lib.ListN.{length, getD};
 ghost use Rattle.encoding.specs.RowTable.{RowTable};
+ghost use Rattle.query.specs.Grammar.{maxPosition};
 ghost use Rattle.query_lexer.specs.Scans.{BlankIs, NameByteIs, Skipped, NameChar, FirstChar, ShortName, QuotedChar, QuotedName};
+ghost use Rattle.query_lexer.specs.Scans.{IsDigit, DigitIs, LeadsOn, PositionAt};
 
 // The four blanks.
 const SPACE: u8 = 0x20;
@@ -19,6 +22,15 @@ const RETURN: u8 = 0x0D;
 const PRINTABLE: u8 = 0x20;
 
 const BACKSLASH: u8 = 0x5C;
+
+// The largest position, 2^53 - 1.
+const MAX_POSITION: u64 = 9_007_199_254_740_991;
+
+// A position's digits: the place after the last, and the number that they stand for.
+pub struct Digits {
+    pub at: usize,
+    pub number: u64,
+}
 
 // Whether `b` is a blank.
 fn is_blank(b: u8) -> bool
@@ -179,4 +191,58 @@ pub fn quoted(rows: &Rows, query: &[u8], quote: u8, at: usize) -> Scan
         i = next.at;
     }
     Scan { ok: false, at: i }
+}
+
+// Whether `b` is a digit.
+pub fn is_digit(b: u8) -> bool
+    ensures { λ r. ⌜ DigitIs b r ⌝ }
+{
+    match b {
+        b'0'..=b'9' => true,
+        _ => false,
+    }
+}
+
+// The number that the digits of `number` stand for with the digit `b` behind them.
+fn with_digit(number: u64, b: u8) -> u64
+    requires { ⌜ (number ≤ maxPosition) × IsDigit b ⌝ }
+    ensures { λ r. ⌜ r ≡ number * 10 + (b - 0x30) ⌝ }
+{
+    number * 10 + (b - b'0') as u64
+}
+
+// Whether `b` is one digit more behind those of `number`: none stands behind a first 0, and none carries the number past the maximum.
+fn leads_on(number: u64, b: u8) -> bool
+    requires { ⌜ number ≤ maxPosition ⌝ }
+    ensures { λ r. ⌜ LeadsOn number b r ⌝ }
+{
+    if number == 0 {
+        return false;
+    }
+    if !is_digit(b) {
+        return false;
+    }
+    if with_digit(number, b) > MAX_POSITION {
+        return false;
+    }
+    true
+}
+
+// The position whose first digit stands at `at`: as many digits as lead on, so none behind a first 0, and none that would carry the number
+// past the maximum.
+pub fn position(query: &[u8], at: usize) -> Digits
+    requires { ⌜ (at < length (now query)) × IsDigit (getD (now query) at 0) ⌝ }
+    ensures { λ r. ⌜ PositionAt (now (query .entry)) at (r .at) (r .number) ⌝ }
+{
+    let mut number = with_digit(0, query[at]);
+    let mut i = at + 1;
+    while i < query.len() {
+        let b = query[i];
+        if !leads_on(number, b) {
+            return Digits { at: i, number };
+        }
+        number = with_digit(number, b);
+        i += 1;
+    }
+    Digits { at: i, number }
 }

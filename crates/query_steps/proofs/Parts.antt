@@ -15,9 +15,9 @@ use Rattle.encoding.specs.Prefix.{DeadPlace}
 use Rattle.query_steps.specs.declared.Found.{Found}
 use Rattle.query_steps.specs.declared.StepRead.{StepRead}
 use Rattle.query_steps.specs.declared.StepRead.the-variants.{Taken, Refused}
-use Rattle.query_steps.specs.declared.Taking.the-variants.{Every, Name}
+use Rattle.query_steps.specs.declared.Taking.the-variants.{Every, Name, Position}
 use Rattle.query.specs.Grammar as G
-use Rattle.query.specs.Grammar.{Quote, quoteByte, Short, Inner, Depth, Spaced, QueryText, putFirst, putLaters, putChars, putDots, putDeep}
+use Rattle.query.specs.Grammar.{Quote, quoteByte, Short, Inner, Depth, Spaced, QueryText, putFirst, putLaters, putChars, putPosition, putDots, putDeep}
 use Rattle.query.specs.Grammar.{putSegment, putSpaced, isDeep, segmentStep}
 use Rattle.query.specs.Steps as S
 use Rattle.query.specs.Steps.{Selector}
@@ -26,13 +26,14 @@ use Rattle.query.specs.Machine.{Control, done, gap, opened, closing, inside, qu
 use Rattle.query.specs.Read as R
 use Rattle.query.specs.Read.{begin, deepen, Reading, good, bad, note, reading}
 use Rattle.query.specs.MachineLaws.{miss-only}
+use Rattle.query.specs.Positions.{no-digit}
 use Rattle.query.specs.Spell.{spell, spell-named, spell-bad, done-gap, blank-gap, blank-opened, blank-closing}
 use Rattle.query.specs.Text.{shorthand-append, quote-opens, quote-closes}
 use Rattle.query.specs.Ended.{Ended, clean, cut, ended}
 use Rattle.query.specs.At.{byte-is, written-slice, end-at, stop-at, turn-at, kept-at}
 use Rattle.query.specs.Append.{append-chars, append-spaced}
 use Rattle.query.specs.Place.{Tells, well, ill, tells, accepts-text, dead-place}
-use Rattle.query_lexer.specs.Scans.{BlankIs, other, Skipped, spelt, deeperByte, ShortName, QuotedName}
+use Rattle.query_lexer.specs.Scans.{BlankIs, other, Skipped, spelt, deeperByte, ShortName, QuotedName, PositionAt}
 use Rattle.query_steps.specs.Reader
 use Rattle.query_steps.specs.Reader.{depthOf, selectorAt, Bounded, choose, push, Closed, Begun, SegmentAt, PartRead, StepAt}
 use Rattle.query_steps.proofs.Skips.{blanks-far, over-blanks, blanks-behind}
@@ -41,6 +42,10 @@ use Rattle.query_steps.proofs.Skips.{blanks-far, over-blanks, blanks-be
 choose-every : (n b : ℕ) (r : Reading) → Ended r → note R.every n b r ≡ choose S.every r
 choose-every n b r (clean l) = refl
 choose-every n b r (cut p) = refl
+
+choose-position : (j : ℕ) (r : Reading) → Ended r → note (R.position j) 0 0 r ≡ choose (S.position j) r
+choose-position j r (clean l) = refl
+choose-position j r (cut p) = refl
 
 choose-name : (w : List ℕ) (r : Reading) → Ended r → spell w r ≡ choose (S.name w) r
 choose-name w r (clean l) = spell-named w l
@@ -66,12 +71,15 @@ other-gap : {b : ℕ} → BlankIs b false → (b ≡ 0x2E → ⊥) → (b ≡ 0x
 unfolding step pick
 other-gap {b} x f g = no-blank x gap M.stepRules ∙ miss-only 0x2E (M.dotted G.plain) (M.only 0x5B opened ∷ []) b f ∙ miss-only 0x5B opened [] b g
 
-other-opened : {b : ℕ} → BlankIs b false → (b ≡ 0x2A → ⊥) → (b ≡ 0x27 → ⊥) → (b ≡ 0x22 → ⊥) → step (M.at opened) b ≡ dead
+other-opened : {b : ℕ} → BlankIs b false → (b ≡ 0x2A → ⊥) → (b ≡ 0x27 → ⊥) → (b ≡ 0x22 → ⊥) → (0x30 ≤ b → b ≤ 0x39 → ⊥) →
+    step (M.at opened) b ≡ dead
 unfolding step pick
-other-opened {b} x f g h =
-    let second : List Rule = M.only 0x22 (inside (quoted G.double)) ∷ [] in
+other-opened {b} x f g h k =
+    let digits : List Rule = M.digitRules 0 10 in
+    let second : List Rule = M.only 0x22 (inside (quoted G.double)) ∷ digits in
     no-blank x opened M.innerRules ∙ miss-only 0x2A closing (M.only 0x27 (inside (quoted G.single)) ∷ second) b f ∙
-    miss-only 0x27 (inside (quoted G.single)) second b g ∙ miss-only 0x22 (inside (quoted G.double)) [] b h
+    miss-only 0x27 (inside (quoted G.single)) second b g ∙ miss-only 0x22 (inside (quoted G.double)) digits b h ∙
+    no-digit 0 10 b (λ d l m e. k (omega arith) (omega arith))
 
 other-closing : {b : ℕ} → BlankIs b false → (b ≡ 0x5D → ⊥) → step (M.at closing) b ≡ dead
 unfolding step pick
@@ -141,6 +149,9 @@ nameFound place d a b = record { deep = d; place = place; taking = Name a b }
 abbrev everyFound : ℕ → Bool → Found
 everyFound place d = record { deep = d; place = place; taking = Every }
 
+abbrev positionFound : ℕ → Bool → ℕ → Found
+positionFound place d j = record { deep = d; place = place; taking = Position j }
+
 -- a quoted name
 module _ {q : List ℕ} {quote n place : ℕ} {deep ok : Bool} {r : ℕ} (s : QuotedName q quote n ok r) where
   quoted-segment : ok ≡ true → (x : Quote) → quote ≡ quoteByte x → (m : ℕ) (v : Blanks) → putBlanks v (0x5D ∷ drop m q) ≡ drop (r + 1) q →
@@ -174,6 +185,25 @@ module _ {q : List ℕ} {quote n place : ℕ} {deep ok : Bool} {r : ℕ} (s : Qu
       (ap (step (M.at (inside (quoted x)))) (c .2 ∙ z) ∙ quote-closes x) refl))
       d
 
+-- a position
+module _ {q : List ℕ} {n place : ℕ} {deep : Bool} {r j : ℕ} (s : PositionAt q n r j) where
+  position-segment : (m : ℕ) (v : Blanks) → putBlanks v (0x5D ∷ drop m q) ≡ drop r q →
+      Begun q place (depthOf deep) opened n → SegmentAt q (positionFound place deep j) m
+  unfolding putSegment segmentStep
+  position-segment m v f (w, b) =
+      let (p, t, e) = s .stands in
+      let d : Depth = depthOf deep in
+      record {
+        segment = G.bracketed d w (Inner.position p (omega (arith, e, s .small))) v;
+        written = ap (λ (u : List ℕ). putDeep d (0x5B ∷ putBlanks w u)) (ap (putPosition p) f ∙ t) ∙ b;
+        step = step-is deep (ap S.position (sym e));
+      }
+
+  pub position-taken : {a : StepRead} → Closed q (positionFound place deep j) r a → PartRead q opened n place deep a
+  position-taken z =
+      close-part q opened n r (positionFound place deep j) (note (R.position j) 0 0) (omega (arith, s .on)) (s .small)
+      (λ p. refl) (choose-position j) position-segment (s .reads) z
+
 -- in brackets, behind the blanks
 module _ {q : List ℕ} {n r : ℕ} (s : Skipped q n r) {place : ℕ} {deep : Bool} where
   pub over-opened : {a : StepRead} → PartRead q opened r place deep a → PartRead q opened n place deep a
@@ -189,8 +219,9 @@ module _ {q : List ℕ} {n r : ℕ} (s : Skipped q n r) {place : ℕ} {deep : Bo
   opened-end h = over-opened (Reader.PartRead.refused r (end-at opened q r h refl))
 
   module _ (h : r < length q) where
-    pub opened-other : (getD q r 0 ≡ 0x2A → ⊥) → (getD q r 0 ≡ 0x27 → ⊥) → (getD q r 0 ≡ 0x22 → ⊥) → PartRead q opened n place deep (Refused r)
-    opened-other f g k = over-opened (Reader.PartRead.refused r (stop-at opened q r h (other-opened (s .next h) f g k)))
+    pub opened-other : (getD q r 0 ≡ 0x2A → ⊥) → (getD q r 0 ≡ 0x27 → ⊥) → (getD q r 0 ≡ 0x22 → ⊥) → (0x30 ≤ getD q r 0 → getD q r 0 ≤ 0x39 → ⊥) →
+        PartRead q opened n place deep (Refused r)
+    opened-other f g k d = over-opened (Reader.PartRead.refused r (stop-at opened q r h (other-opened (s .next h) f g k d)))
 
     every-segment : getD q r 0 ≡ 0x2A → (m : ℕ) (v : Blanks) → putBlanks v (0x5D ∷ drop m q) ≡ drop (r + 1) q →
         Begun q place (depthOf deep) opened r → SegmentAt q (everyFound place deep) m

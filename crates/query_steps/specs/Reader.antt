@@ -13,10 +13,10 @@ use Rattle.query_steps.specs.declared.Taking.the-variants.{Every, Name, 
 use Rattle.encoding.specs.Bytes.{Blanks, putBlanks}
 use Rattle.encoding.specs.Prefix.{DeadPlace}
 use Rattle.query.specs.Grammar.{quoteByte, Depth, plain, deep, Segment, Spaced, QueryText, putDots, putDeep, putSegment, putSpaced}
-use Rattle.query.specs.Grammar.{segmentStep}
+use Rattle.query.specs.Grammar.{maxPosition, segmentStep}
 use Rattle.query.specs.Steps as S
 use Rattle.query.specs.Steps.{Selector}
-use Rattle.query.specs.Machine.{Control, root, done, gap, dotted, opened, closing, inside, tailDue, short, quoted}
+use Rattle.query.specs.Machine.{Control, root, done, gap, dotted, opened, closing, inPosition, inside, tailDue, short, quoted}
 use Rattle.query.specs.Read.{Placed, taking, named, Reading, good, bad, reading}
 
 -- the depth that is deep or not
@@ -38,10 +38,6 @@ placedAt q f = record { place = f .place; step = record { deep = f .deep; select
 abbrev pub readPlace : StepRead → ℕ
 readPlace (Taken f m) = f .place
 readPlace (Refused p) = p
-
--- 2^53 - 1, the largest integer of RFC 9535 §2.1
-abbrev pub maxPosition : ℕ
-maxPosition = 9007199254740991
 
 -- a name stands in the query, and a position is at most the largest that a query can have
 abbrev pub Bounded : List ℕ → Taking → Type 0
@@ -79,6 +75,7 @@ Begun q place d gap n = ⊥
 Begun q place d (dotted e) n = putDots d (drop n q) ≡ drop place q
 Begun q place d opened n = (w : Blanks) × (putDeep d (0x5B ∷ putBlanks w (drop n q)) ≡ drop place q)
 Begun q place d closing n = ⊥
+Begun q place d (inPosition v) n = ⊥
 Begun q place d (inside short) n = ⊥
 Begun q place d (inside (quoted x)) n = (w : Blanks) × (putDeep d (0x5B ∷ putBlanks w (quoteByte x ∷ drop n q)) ≡ drop place q)
 Begun q place d (tailDue p k h) n = ⊥

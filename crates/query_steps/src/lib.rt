@@ -7,7 +7,7 @@ ghost use lib.ListN.{length, getD};
 ghost use Rattle.encoding.specs.RowTable.{RowTable};
 ghost use Rattle.query.specs.Grammar.{Quote, quoteByte};
 ghost use Rattle.query.specs.Machine.{dotted, opened, inside, quoted};
-ghost use Rattle.query_lexer.specs.Scans.{deeperByte};
+ghost use Rattle.query_lexer.specs.Scans.{deeperByte, IsDigit};
 ghost use Rattle.query_steps.specs.Reader.{depthOf, readPlace, Closed, PartRead, StepAt};
 
 const DOT: u8 = b'.';
@@ -93,7 +93,21 @@ fn read_quoted(
     close(query, found, end + 1)
 }
 
-// The rest of a step in brackets, from behind the opening one: blanks, a quoted name or `*`, blanks, the closing bracket.
+// A position and the end of its brackets, from the position's first digit on.
+fn read_position(query: &[u8], place: usize, deep: bool, at: usize) -> StepRead
+    requires { ⌜ (at < length (now query)) × IsDigit (getD (now query) at 0) ⌝ }
+    ensures { λ r. ⌜ PartRead (now (query .entry)) opened at place deep r ⌝ }
+{
+    let digits = query_lexer::position(query, at);
+    let found = Found {
+        deep,
+        place,
+        taking: Taking::Position(digits.number),
+    };
+    close(query, found, digits.at)
+}
+
+// The rest of a step in brackets, from behind the opening one: blanks, a quoted name, a position or `*`, blanks, the closing bracket.
 fn read_bracket(rows: &Rows, query: &[u8], place: usize, deep: bool, at: usize) -> StepRead
     requires { ⌜ (at ≤ length (now query)) × RowTable (now rows) ⌝ }
     ensures { λ r. ⌜ PartRead (now (query .entry)) opened at place deep r ⌝ }
@@ -116,6 +130,9 @@ fn read_bracket(rows: &Rows, query: &[u8], place: usize, deep: bool, at: usize) 
     }
     if b == DOUBLE {
         return read_quoted(rows, query, place, deep, DOUBLE, inner + 1);
+    }
+    if query_lexer::is_digit(b) {
+        return read_position(query, place, deep, inner);
     }
     StepRead::Refused(inner)
 }
