@@ -10,6 +10,8 @@ use lib.ListN.{length, getD, drop, drop-of-length-le, length-append}
 use Rattle.query_steps.specs.declared.Found.{Found}
 use Rattle.query_steps.specs.declared.StepRead.{StepRead}
 use Rattle.query_steps.specs.declared.StepRead.the-variants.{Taken}
+use Rattle.query_steps.specs.declared.Taking.{Taking}
+use Rattle.query_steps.specs.declared.Taking.the-variants.{Every, Name, Position}
 use Rattle.query_parser.specs.declared.compiled.Compiled.{Compiled}
 use Rattle.query_parser.specs.declared.Outcome.{Outcome}
 use Rattle.bits.specs.Bits.{bit}
@@ -174,9 +176,11 @@ begin-so-far {q} {c} l n e f = record {
   reads = kept-at root q 0 (omega arith) done (ap (step (M.at root)) e ∙ root-leads) refl ∙ prepend-none (ended 1 (drop 1 q));
 }
 
--- what is found in a query that is short enough has small bounds
-short-found : {q : List ℕ} {f : Found} → length q ≤ maxQueryBytes → Bounded q f → Short f
-short-found l b = (omega (arith, b .order, b .within), omega (arith, b .within))
+-- a name in a query that is short enough has small bounds
+short-found : (q : List ℕ) (t : Taking) → length q ≤ maxQueryBytes → Bounded q t → Short t
+short-found q Every l b = tt
+short-found q (Name a e) l b = (omega (arith, b .0, b .1), omega (arith, b .1))
+short-found q (Position j) l b = tt
 
 module _ {q : List ℕ} {c : Compiled} {i : ℕ} (s : SoFar q c i) where
   pub so-far-more : {f : Found} {m : ℕ} {d : Compiled} → StepTaken q i f m → Holds q (stepsOf (s .before) ++ placedAt q f .step ∷ []) (d .kinds) (d .operands) →
@@ -225,5 +229,5 @@ module _ {q : List ℕ} {c : Compiled} {i : ℕ} (s : SoFar q c i) where
       go (bad p) e g = bad-answer (s .short) e g
 
   -- there is room for one step more
-  pub add-fits : {f : Found} {m : ℕ} → StepTaken q i f m → (c .kinds .count ≡ maxSteps → ⊥) → (c .kinds .count < maxSteps) × Short f
-  add-fits t n = (omega (arith, s .held .fits .few), short-found (s .short) (t .bounded))
+  pub add-fits : {f : Found} {m : ℕ} → StepTaken q i f m → (c .kinds .count ≡ maxSteps → ⊥) → (c .kinds .count < maxSteps) × Short (f .taking)
+  add-fits {f} t n = (omega (arith, s .held .fits .few), short-found q (f .taking) (s .short) (t .bounded))

@@ -6,17 +6,21 @@ use mathlib.Core.Option.{Option, some, none}
 use Prim.Native.Nat.{ℕ, zero, suc, _+_, _*_, _≤_, _<_}
 use native.Mathlib.Omega.{arith}
 use borrow.Author.Tests.{eqb-true, eqb-false}
+use denote.Enum.Declared.{tagOf}
 use lib.Dec.{T, eqb}
 use lib.ListN.{length, getD, set, getElem?, length-append, length-set}
 use lib.Seq.{getD-set-same, getD-set-other, slice}
 use Rattle.bits.specs.Bits.{bit}
 use Rattle.query_steps.specs.declared.Found.{Found}
+use Rattle.query_steps.specs.declared.Taking.{Taking}
+use Rattle.query_steps.specs.declared.Taking.the-variants.{Every, Name, Position}
+use Rattle.query_steps.proofs.Taking.{the-type}
 use Rattle.query_parser.specs.declared.compiled.Kinds.{Kinds}
 use Rattle.query_parser.specs.declared.compiled.Entry.{Entry}
-use Rattle.query.specs.Steps.{Selector, name, every, Step, isDeep}
+use Rattle.query.specs.Steps.{Step, isDeep}
 use Rattle.query.specs.StepsLaws.{no-step}
-use Rattle.query.specs.Verdict.{maxSteps}
-use Rattle.query_steps.specs.Reader.{placedAt, Bounded}
+use Rattle.query.specs.Verdict.{maxSteps, maxQueryBytes}
+use Rattle.query_steps.specs.Reader.{selectorAt, placedAt, Bounded}
 use Rattle.query_parser.specs.Holds.{everyAt, namedAt, positionedAt, nameAt, positionAt, nameStart, nameEnd, Holds}
 use Rattle.query_parser.specs.Compiles.{Short, Compiles}
 
@@ -121,42 +125,60 @@ start-back a b h = omega arith
 end-back : (a b : ℕ) → b < 65536 → nameEnd (a * 65536 + b) ≡ b
 end-back a b h = omega arith
 
+-- the bounds of a name that was found in a query that is short enough
+pub name-short : {t : Taking} {a b : ℕ} → t ≡ Name a b → Short t → (a ≤ maxQueryBytes) × (b ≤ maxQueryBytes)
+name-short e s = subst Short e s
+
 -- the step that was found, by what it takes
-module _ (q : List ℕ) (d : Bool) where
-  abbrev taking : Selector → Step
-  taking sel = record { deep = d; selector = sel }
 
-  every-compiles : Compiles q (taking every) (record { deep = d; every = true; named = false; positioned = false; operand = 0 })
-  every-compiles = record {
-    deep = refl;
-    every = refl;
-    named = refl;
-    positioned = refl;
-    order = λ h. absurd (false≢true h);
-    within = λ h. absurd (false≢true h);
-    name = λ h. absurd (false≢true h);
-    position = λ h. absurd (false≢true h);
-  }
-
-  name-compiles : (a b : ℕ) → b < 65536 → a ≤ b → b ≤ length q →
-      Compiles q (taking (name (slice a b q))) (record { deep = d; every = false; named = true; positioned = false; operand = a * 65536 + b })
-  name-compiles a b h l w = record {
-    deep = refl;
-    every = refl;
-    named = refl;
-    positioned = refl;
-    order = λ e. rw (start-back a b h, end-back a b h) l;
-    within = λ e. rw (end-back a b h) w;
-    name = λ e. rw (start-back a b h, end-back a b h) refl;
-    position = λ e. absurd (false≢true e);
-  }
+never : {X : Type 0} → false ≡ true → X
+never h = absurd (false≢true h)
 
 module _ (f : Found) where
-  pub every-found : f .every ≡ true → (q : List ℕ) → Bounded q f →
+  pub every-found : tagOf the-type (f .taking) ≡ 0 → (q : List ℕ) →
       Compiles q (placedAt q f .step) (record { deep = f .deep; every = true; named = false; positioned = false; operand = 0 })
-  every-found e q b = rw e (every-compiles q (f .deep))
+  every-found = go (f .taking)
+    where
+      go : (t : Taking) → tagOf the-type t ≡ 0 → (q : List ℕ) → Compiles q (record { deep = f .deep; selector = selectorAt q t })
+          (record { deep = f .deep; every = true; named = false; positioned = false; operand = 0 })
+      go Every e q = record {
+        deep = refl;
+        every = refl;
+        named = refl;
+        positioned = refl;
+        order = never;
+        within = never;
+        name = never;
+        position = never;
+      }
+      go (Name a b) e q = absurd (omega arith)
+      go (Position j) e q = absurd (omega arith)
 
-  pub name-found : f .every ≡ false → Short f → (q : List ℕ) → Bounded q f →
-      Compiles q (placedAt q f .step)
-      (record { deep = f .deep; every = false; named = true; positioned = false; operand = f .start * 65536 + f .end })
-  name-found e s q b = rw e (name-compiles q (f .deep) (f .start) (f .end) (omega (arith, s .1)) (b .order) (b .within))
+  pub name-found : (a b : ℕ) → f .taking ≡ Name a b → Short (f .taking) → (q : List ℕ) → Bounded q (f .taking) →
+      Compiles q (placedAt q f .step) (record { deep = f .deep; every = false; named = true; positioned = false; operand = a * 65536 + b })
+  name-found a b e s q x =
+      let w : (a ≤ b) × (b ≤ length q) = subst (Bounded q) e x in
+      let h : b < 65536 = omega (arith, name-short e s .1) in
+      rw e (record {
+        deep = refl;
+        every = refl;
+        named = refl;
+        positioned = refl;
+        order = λ y. rw (start-back a b h, end-back a b h) (w .0);
+        within = λ y. rw (end-back a b h) (w .1);
+        name = λ y. rw (start-back a b h, end-back a b h) refl;
+        position = never;
+      })
+
+  pub position-found : (j : ℕ) → f .taking ≡ Position j → (q : List ℕ) →
+      Compiles q (placedAt q f .step) (record { deep = f .deep; every = false; named = false; positioned = true; operand = j })
+  position-found j e q = rw e (record {
+    deep = refl;
+    every = refl;
+    named = refl;
+    positioned = refl;
+    order = never;
+    within = never;
+    name = never;
+    position = λ h. refl;
+  })

@@ -9,7 +9,8 @@ use Rattle.query_parser.specs.declared.compiled.Entry.{Entry}
 use Rattle.query.specs.Steps.{Step}
 use Rattle.query.specs.Read.{nameBytes}
 use Rattle.query.specs.Verdict.{maxQueryBytes}
-use Rattle.query_steps.specs.declared.Found.{Found}
+use Rattle.query_steps.specs.declared.Taking.{Taking}
+use Rattle.query_steps.specs.declared.Taking.the-variants.{Every, Name, Position}
 use Rattle.query_parser.specs.Holds.{isEvery, isNamed, isPositioned, positionOf, nameStart, nameEnd}
 
 -- the bit of each mask, and the operand
@@ -23,6 +24,8 @@ pub record Compiles (q : List ℕ) (s : Step) (e : Entry) : Type 0 where
   pub name : e .named ≡ true → slice (nameStart (e .operand)) (nameEnd (e .operand)) q ≡ nameBytes (s .selector)
   pub position : e .positioned ≡ true → e .operand ≡ positionOf (s .selector)
 
--- the bounds of what was found are those of a query that is short enough
-abbrev pub Short : Found → Type 0
-Short f = (f .start ≤ maxQueryBytes) × (f .end ≤ maxQueryBytes)
+-- the bounds of a name are those of a query that is short enough
+abbrev pub Short : Taking → Type 0
+Short Every = Unit {0}
+Short (Name a b) = (a ≤ maxQueryBytes) × (b ≤ maxQueryBytes)
+Short (Position j) = Unit {0}

@@ -1,5 +1,6 @@
 // The steps of a query in the form that the walks use: kinds as bits, and an operand for each step, the name or the position that it takes.
 use query_steps::Found;
+use query_steps::Taking;
 ghost use mathlib.Core.Path.{_≡_};
 ghost use mathlib.Core.List.{List, [], _∷_, _++_};
 ghost use Prim.Native.Nat.{ℕ, _<_};
@@ -72,31 +73,39 @@ pub fn no_steps() -> Compiled
 
 // The step that was found.
 fn entry_of(found: Found) -> Entry
-    requires { ⌜ Short found ⌝ }
-    ensures { λ r. ⌜ ((q : List ℕ) → Bounded q found → Compiles q (placedAt q found .step) r) ⌝ }
+    requires { ⌜ Short (found .taking) ⌝ }
+    ensures { λ r. ⌜ ((q : List ℕ) → Bounded q (found .taking) → Compiles q (placedAt q found .step) r) ⌝ }
 {
-    if found.every {
-        return Entry {
+    let taking = found.taking;
+    match taking {
+        Taking::Every => Entry {
             deep: found.deep,
             every: true,
             named: false,
             positioned: false,
             operand: 0,
-        };
-    }
-    Entry {
-        deep: found.deep,
-        every: false,
-        named: true,
-        positioned: false,
-        operand: found.start as u64 * BOUND + found.end as u64,
+        },
+        Taking::Name(start, end) => Entry {
+            deep: found.deep,
+            every: false,
+            named: true,
+            positioned: false,
+            operand: start as u64 * BOUND + end as u64,
+        },
+        Taking::Position(position) => Entry {
+            deep: found.deep,
+            every: false,
+            named: false,
+            positioned: true,
+            operand: position,
+        },
     }
 }
 
 // The steps with one more, for which there is room.
 pub fn add(steps: Compiled, found: Found) -> Compiled
-    requires { ⌜ (steps .kinds .count < maxSteps) × Short found ⌝ }
-    ensures { λ r. ⌜ ((q : List ℕ) (x : List Step) → Holds q x (steps .kinds) (steps .operands) → Bounded q found → Holds q (x ++ placedAt q found .step ∷ []) (r .kinds) (r .operands)) ⌝ }
+    requires { ⌜ (steps .kinds .count < maxSteps) × Short (found .taking) ⌝ }
+    ensures { λ r. ⌜ ((q : List ℕ) (x : List Step) → Holds q x (steps .kinds) (steps .operands) → Bounded q (found .taking) → Holds q (x ++ placedAt q found .step ∷ []) (r .kinds) (r .operands)) ⌝ }
 {
     let one = entry_of(found);
     let old = steps.kinds;

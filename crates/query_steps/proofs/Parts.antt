@@ -1,7 +1,7 @@
 -- One step of a query: each part of it that a scan passed leads the reading on, and what stands there is a segment of the grammar.
 -- Assumes nothing.
 use mathlib.Core.Path.{_≡_, refl, ap, ap₂, sym, subst, _∙_}
-use mathlib.Core.List.{List, [], _∷_}
+use mathlib.Core.List.{List, [], _∷_, _++_}
 use mathlib.Core.Bool.{Bool, true, false}
 use Prim.Native.Nat.{ℕ, suc, _+_, _-_, _≤_, _<_}
 use native.Mathlib.Omega.{arith}
@@ -15,8 +15,9 @@ use Rattle.encoding.specs.Prefix.{DeadPlace}
 use Rattle.query_steps.specs.declared.Found.{Found}
 use Rattle.query_steps.specs.declared.StepRead.{StepRead}
 use Rattle.query_steps.specs.declared.StepRead.the-variants.{Taken, Refused}
+use Rattle.query_steps.specs.declared.Taking.the-variants.{Every, Name, Position}
 use Rattle.query.specs.Grammar as G
-use Rattle.query.specs.Grammar.{Quote, quoteByte, Short, Inner, Depth, Spaced, QueryText, putFirst, putLaters, putChars, putDots, putDeep}
+use Rattle.query.specs.Grammar.{Quote, quoteByte, Short, Inner, Depth, Spaced, QueryText, putFirst, putLaters, putChars, putPosition, putDots, putDeep}
 use Rattle.query.specs.Grammar.{putSegment, putSpaced, isDeep, segmentStep}
 use Rattle.query.specs.Steps as S
 use Rattle.query.specs.Steps.{Selector}
@@ -25,21 +26,26 @@ use Rattle.query.specs.Machine.{Control, done, gap, opened, closing, inside, qu
 use Rattle.query.specs.Read as R
 use Rattle.query.specs.Read.{begin, deepen, Reading, good, bad, note, reading}
 use Rattle.query.specs.MachineLaws.{miss-only}
+use Rattle.query.specs.Positions.{no-digit}
 use Rattle.query.specs.Spell.{spell, spell-named, spell-bad, done-gap, blank-gap, blank-opened, blank-closing}
 use Rattle.query.specs.Text.{shorthand-append, quote-opens, quote-closes}
 use Rattle.query.specs.Ended.{Ended, clean, cut, ended}
 use Rattle.query.specs.At.{byte-is, written-slice, end-at, stop-at, turn-at, kept-at}
 use Rattle.query.specs.Append.{append-chars, append-spaced}
 use Rattle.query.specs.Place.{Tells, well, ill, tells, accepts-text, dead-place}
-use Rattle.query_lexer.specs.Scans.{BlankIs, other, Skipped, spelt, deeperByte, ShortName, QuotedName}
+use Rattle.query_lexer.specs.Scans.{BlankIs, other, Skipped, spelt, deeperByte, ShortName, QuotedName, PositionAt}
 use Rattle.query_steps.specs.Reader
 use Rattle.query_steps.specs.Reader.{depthOf, selectorAt, Bounded, choose, push, Closed, Begun, SegmentAt, PartRead, StepAt}
-use Rattle.query_steps.proofs.Skips.{blanks-far, over-blanks}
+use Rattle.query_steps.proofs.Skips.{blanks-far, over-blanks, blanks-behind}
 
 -- what a step takes, before what is read behind it
 choose-every : (n b : ℕ) (r : Reading) → Ended r → note R.every n b r ≡ choose S.every r
 choose-every n b r (clean l) = refl
 choose-every n b r (cut p) = refl
+
+choose-position : (j : ℕ) (r : Reading) → Ended r → note (R.position j) 0 0 r ≡ choose (S.position j) r
+choose-position j r (clean l) = refl
+choose-position j r (cut p) = refl
 
 choose-name : (w : List ℕ) (r : Reading) → Ended r → spell w r ≡ choose (S.name w) r
 choose-name w r (clean l) = spell-named w l
@@ -65,12 +71,15 @@ other-gap : {b : ℕ} → BlankIs b false → (b ≡ 0x2E → ⊥) → (b ≡ 0x
 unfolding step pick
 other-gap {b} x f g = no-blank x gap M.stepRules ∙ miss-only 0x2E (M.dotted G.plain) (M.only 0x5B opened ∷ []) b f ∙ miss-only 0x5B opened [] b g
 
-other-opened : {b : ℕ} → BlankIs b false → (b ≡ 0x2A → ⊥) → (b ≡ 0x27 → ⊥) → (b ≡ 0x22 → ⊥) → step (M.at opened) b ≡ dead
+other-opened : {b : ℕ} → BlankIs b false → (b ≡ 0x2A → ⊥) → (b ≡ 0x27 → ⊥) → (b ≡ 0x22 → ⊥) → (0x30 ≤ b → b ≤ 0x39 → ⊥) →
+    step (M.at opened) b ≡ dead
 unfolding step pick
-other-opened {b} x f g h =
-    let second : List Rule = M.only 0x22 (inside (quoted G.double)) ∷ [] in
+other-opened {b} x f g h k =
+    let digits : List Rule = M.digitRules 0 10 in
+    let second : List Rule = M.only 0x22 (inside (quoted G.double)) ∷ digits in
     no-blank x opened M.innerRules ∙ miss-only 0x2A closing (M.only 0x27 (inside (quoted G.single)) ∷ second) b f ∙
-    miss-only 0x27 (inside (quoted G.single)) second b g ∙ miss-only 0x22 (inside (quoted G.double)) [] b h
+    miss-only 0x27 (inside (quoted G.single)) second b g ∙ miss-only 0x22 (inside (quoted G.double)) digits b h ∙
+    no-digit 0 10 b (λ d l m e. k (omega arith) (omega arith))
 
 other-closing : {b : ℕ} → BlankIs b false → (b ≡ 0x5D → ⊥) → step (M.at closing) b ≡ dead
 unfolding step pick
@@ -118,8 +127,8 @@ part-from l b e (Reader.PartRead.taken f m t) = Reader.PartRead.taken f m (recor
 part-from l b e (Reader.PartRead.refused p g) = Reader.PartRead.refused p (e ∙ g)
 
 -- what was read in brackets, and their end
-module _ (q : List ℕ) (c : Control) (n k : ℕ) (f : Found) (said : Reading → Reading) (l : n ≤ k) (b : Bounded q f)
-    (bads : (p : ℕ) → said (bad p) ≡ bad p) (chooses : (r : Reading) → Ended r → said r ≡ choose (selectorAt q (f .every) (f .start) (f .end)) r)
+module _ (q : List ℕ) (c : Control) (n k : ℕ) (f : Found) (said : Reading → Reading) (l : n ≤ k) (b : Bounded q (f .taking))
+    (bads : (p : ℕ) → said (bad p) ≡ bad p) (chooses : (r : Reading) → Ended r → said r ≡ choose (selectorAt q (f .taking)) r)
     (stands : (m : ℕ) (w : Blanks) → putBlanks w (0x5D ∷ drop m q) ≡ drop k q → Begun q (f .place) (depthOf (f .deep)) c n → SegmentAt q f m)
     (e : reading c n (drop n q) ≡ said (reading closing k (drop k q))) where
   close-part : {a : StepRead} → Closed q f k a → PartRead q c n (f .place) (f .deep) a
@@ -135,10 +144,13 @@ module _ (q : List ℕ) (c : Control) (n k : ℕ) (f : Found) (said : Reading �
   close-part (Reader.Closed.refused p g) = Reader.PartRead.refused p (e ∙ ap said g ∙ bads p)
 
 abbrev nameFound : ℕ → Bool → ℕ → ℕ → Found
-nameFound place d a b = record { deep = d; every = false; place = place; start = a; end = b }
+nameFound place d a b = record { deep = d; place = place; taking = Name a b }
 
 abbrev everyFound : ℕ → Bool → Found
-everyFound place d = record { deep = d; every = true; place = place; start = 0; end = 0 }
+everyFound place d = record { deep = d; place = place; taking = Every }
+
+abbrev positionFound : ℕ → Bool → ℕ → Found
+positionFound place d j = record { deep = d; place = place; taking = Position j }
 
 -- a quoted name
 module _ {q : List ℕ} {quote n place : ℕ} {deep ok : Bool} {r : ℕ} (s : QuotedName q quote n ok r) where
@@ -165,7 +177,7 @@ module _ {q : List ℕ} {quote n place : ℕ} {deep ok : Bool} {r : ℕ} (s : Qu
   quoted-taken e d x z =
       let c = s .closed e in
       close-part q (inside (quoted x)) n (r + 1) (nameFound place deep n r) (spell (slice n r q)) (omega (arith, c .0))
-      (record { order = c .0; within = s .within; none = λ y. absurd (subst T (sym y) tt) })
+      (c .0, s .within)
       (spell-bad (slice n r q)) (choose-name (slice n r q))
       (quoted-segment e x z)
       (s .reads x z ∙ ap (λ (b : Bool). spelt q (inside (quoted x)) n b r) e ∙
@@ -173,46 +185,69 @@ module _ {q : List ℕ} {quote n place : ℕ} {deep ok : Bool} {r : ℕ} (s : Qu
       (ap (step (M.at (inside (quoted x)))) (c .2 ∙ z) ∙ quote-closes x) refl))
       d
 
--- in brackets
+-- a position
+module _ {q : List ℕ} {n place : ℕ} {deep : Bool} {r j : ℕ} (s : PositionAt q n r j) where
+  position-segment : (m : ℕ) (v : Blanks) → putBlanks v (0x5D ∷ drop m q) ≡ drop r q →
+      Begun q place (depthOf deep) opened n → SegmentAt q (positionFound place deep j) m
+  unfolding putSegment segmentStep
+  position-segment m v f (w, b) =
+      let (p, t, e) = s .stands in
+      let d : Depth = depthOf deep in
+      record {
+        segment = G.bracketed d w (Inner.position p (omega (arith, e, s .small))) v;
+        written = ap (λ (u : List ℕ). putDeep d (0x5B ∷ putBlanks w u)) (ap (putPosition p) f ∙ t) ∙ b;
+        step = step-is deep (ap S.position (sym e));
+      }
+
+  pub position-taken : {a : StepRead} → Closed q (positionFound place deep j) r a → PartRead q opened n place deep a
+  position-taken z =
+      close-part q opened n r (positionFound place deep j) (note (R.position j) 0 0) (omega (arith, s .on)) (s .small)
+      (λ p. refl) (choose-position j) position-segment (s .reads) z
+
+-- in brackets, behind the blanks
 module _ {q : List ℕ} {n r : ℕ} (s : Skipped q n r) {place : ℕ} {deep : Bool} where
+  pub over-opened : {a : StepRead} → PartRead q opened r place deep a → PartRead q opened n place deep a
+  over-opened z =
+      part-from (s .from)
+      (λ (w, b). (
+        w ++ s .stand .0,
+        ap (λ (u : List ℕ). putDeep (depthOf deep) (0x5B ∷ u)) (blanks-behind w (s .stand .0) (drop r q) ∙ ap (putBlanks w) (s .stand .1)) ∙ b,
+      ))
+      (over-blanks s opened blank-opened refl) z
+
   pub opened-end : length q ≤ r → PartRead q opened n place deep (Refused r)
-  opened-end h = Reader.PartRead.refused r (over-blanks s opened blank-opened refl ∙ end-at opened q r h refl)
+  opened-end h = over-opened (Reader.PartRead.refused r (end-at opened q r h refl))
 
   module _ (h : r < length q) where
-    pub opened-other : (getD q r 0 ≡ 0x2A → ⊥) → (getD q r 0 ≡ 0x27 → ⊥) → (getD q r 0 ≡ 0x22 → ⊥) → PartRead q opened n place deep (Refused r)
-    opened-other f g k = Reader.PartRead.refused r (over-blanks s opened blank-opened refl ∙ stop-at opened q r h (other-opened (s .next h) f g k))
+    pub opened-other : (getD q r 0 ≡ 0x2A → ⊥) → (getD q r 0 ≡ 0x27 → ⊥) → (getD q r 0 ≡ 0x22 → ⊥) → (0x30 ≤ getD q r 0 → getD q r 0 ≤ 0x39 → ⊥) →
+        PartRead q opened n place deep (Refused r)
+    opened-other f g k d = over-opened (Reader.PartRead.refused r (stop-at opened q r h (other-opened (s .next h) f g k d)))
 
     every-segment : getD q r 0 ≡ 0x2A → (m : ℕ) (v : Blanks) → putBlanks v (0x5D ∷ drop m q) ≡ drop (r + 1) q →
-        Begun q place (depthOf deep) opened n → SegmentAt q (everyFound place deep) m
+        Begun q place (depthOf deep) opened r → SegmentAt q (everyFound place deep) m
     unfolding putSegment segmentStep
-    every-segment e m v f b =
-        let (w, t) = s .stand in
+    every-segment e m v f (w, b) =
         let d : Depth = depthOf deep in
         record {
           segment = G.bracketed d w Inner.star v;
-          written = ap (λ (u : List ℕ). putDeep d (0x5B ∷ putBlanks w u)) (ap (λ (u : List ℕ). 0x2A ∷ u) f ∙ sym (byte-is q r h e)) ∙
-              ap (λ (u : List ℕ). putDeep d (0x5B ∷ u)) t ∙ b;
+          written = ap (λ (u : List ℕ). putDeep d (0x5B ∷ putBlanks w u)) (ap (λ (u : List ℕ). 0x2A ∷ u) f ∙ sym (byte-is q r h e)) ∙ b;
           step = step-is deep refl;
         }
 
     pub opened-every : getD q r 0 ≡ 0x2A → {a : StepRead} → Closed q (everyFound place deep) (r + 1) a → PartRead q opened n place deep a
     unfolding step
-    opened-every e z =
-        close-part q opened n (r + 1) (everyFound place deep) (note R.every r (getD q r 0)) (omega (arith, s .from))
-        (record { order = omega arith; within = omega arith; none = λ y. omega arith })
+    opened-every e z = over-opened
+        (close-part q opened r (r + 1) (everyFound place deep) (note R.every r (getD q r 0)) (omega arith) tt
         (λ p. refl) (choose-every r (getD q r 0))
         (every-segment e)
-        (over-blanks s opened blank-opened refl ∙ turn-at opened q r h closing (ap (step (M.at opened)) e)) z
+        (turn-at opened q r h closing (ap (step (M.at opened)) e)) z)
 
     pub opened-quote : (x : Quote) → getD q r 0 ≡ quoteByte x → {a : StepRead} → PartRead q (inside (quoted x)) (r + 1) place deep a →
         PartRead q opened n place deep a
-    opened-quote x e z =
-        part-from (omega (arith, s .from))
-        (λ b. (
-          s .stand .0,
-          ap (λ (u : List ℕ). putDeep (depthOf deep) (0x5B ∷ u)) (ap (putBlanks (s .stand .0)) (sym (byte-is q r h e)) ∙ s .stand .1) ∙ b,
-        ))
-        (over-blanks s opened blank-opened refl ∙ kept-at opened q r h (inside (quoted x)) (ap (step (M.at opened)) e ∙ quote-opens x) refl) z
+    opened-quote x e z = over-opened
+        (part-from (omega arith)
+        (λ (w, b). (w, ap (λ (u : List ℕ). putDeep (depthOf deep) (0x5B ∷ putBlanks w u)) (sym (byte-is q r h e)) ∙ b))
+        (kept-at opened q r h (inside (quoted x)) (ap (step (M.at opened)) e ∙ quote-opens x) refl) z)
 
 -- behind `.` or `..`
 star-done : (d : Depth) → step (M.at (M.dotted d)) 0x2A ≡ M.at done
@@ -229,7 +264,7 @@ module _ {q : List ℕ} {n place : ℕ} {deep : Bool} where
       Reader.PartRead.taken (everyFound place deep) (n + 1) (record {
         place = refl;
         depth = refl;
-        bounded = record { order = omega arith; within = omega arith; none = λ y. omega arith };
+        bounded = tt;
         on = omega arith;
         within = omega arith;
         stands = λ b. record {
@@ -264,7 +299,7 @@ module _ {q : List ℕ} {n place : ℕ} {deep : Bool} where
         Reader.PartRead.taken (nameFound place deep n r) r (record {
           place = refl;
           depth = refl;
-          bounded = record { order = omega arith; within = s .moved .within; none = λ y. absurd (subst T (sym y) tt) };
+          bounded = (omega arith, s .moved .within);
           on = m;
           within = s .moved .within;
           stands = short-segment e;
@@ -278,8 +313,8 @@ bracket-opens = refl
 
 pub deep-bracket : {q : List ℕ} {n place : ℕ} {a : StepRead} → n < length q → getD q n 0 ≡ 0x5B → PartRead q opened (n + 1) place true a →
     PartRead q (M.dotted (depthOf true)) n place true a
-unfolding putDots putDeep
-deep-bracket {q} {n} h e z = part-from (omega arith) (λ b. ap (λ (u : List ℕ). 0x2E ∷ 0x2E ∷ u) (sym (byte-is q n h e)) ∙ b)
+unfolding putDots putDeep putBlanks
+deep-bracket {q} {n} h e z = part-from (omega arith) (λ b. ([], ap (λ (u : List ℕ). 0x2E ∷ 0x2E ∷ u) (sym (byte-is q n h e)) ∙ b))
     (kept-at (M.dotted G.deep) q n h opened (ap (step (M.at (M.dotted G.deep))) e ∙ bracket-opens) refl) z
 
 -- what is read from n on is refused
@@ -307,7 +342,7 @@ module _ (q : List ℕ) (c : Control) (n k place : ℕ) (deep : Bool) (said : Re
   whole-step : {a : StepRead} → PartRead q c k place deep a → StepAt q n a
   unfolding putSpaced
   whole-step (Reader.PartRead.taken f m t) =
-      let x : Selector = selectorAt q (f .every) (f .start) (f .end) in
+      let x : Selector = selectorAt q (f .taking) in
       let (w, u) = s .stand in
       let g = t .stands b in
       let y : Spaced = record { before = w; segment = g .segment } in
@@ -342,10 +377,10 @@ module _ {q : List ℕ} {n r : ℕ} (l : n < length q) (s : Skipped q n r) where
     step-other f g = refused-at q n r (to-gap ∙ stop-at gap q r h (other-gap (s .next h) g f))
 
     pub step-bracket : getD q r 0 ≡ 0x5B → {a : StepRead} → PartRead q opened (r + 1) r false a → StepAt q n a
-    unfolding step putDeep
+    unfolding step putDeep putBlanks
     step-bracket e z =
         whole-step q opened n (r + 1) r false (note begin r (getD q r 0)) s (omega arith) (λ p. refl) (push-plain r (getD q r 0))
-        (sym (byte-is q r h e))
+        ([], sym (byte-is q r h e))
         (to-gap ∙ turn-at gap q r h opened (ap (step (M.at gap)) e)) z
 
     module _ (e : getD q r 0 ≡ 0x2E) where

@@ -8,13 +8,15 @@ use lib.Seq.{slice}
 use Rattle.query_steps.specs.declared.Found.{Found}
 use Rattle.query_steps.specs.declared.StepRead.{StepRead}
 use Rattle.query_steps.specs.declared.StepRead.the-variants.{Taken, Refused}
+use Rattle.query_steps.specs.declared.Taking.{Taking}
+use Rattle.query_steps.specs.declared.Taking.the-variants.{Every, Name, Position}
 use Rattle.encoding.specs.Bytes.{Blanks, putBlanks}
 use Rattle.encoding.specs.Prefix.{DeadPlace}
 use Rattle.query.specs.Grammar.{quoteByte, Depth, plain, deep, Segment, Spaced, QueryText, putDots, putDeep, putSegment, putSpaced}
-use Rattle.query.specs.Grammar.{segmentStep}
+use Rattle.query.specs.Grammar.{maxPosition, segmentStep}
 use Rattle.query.specs.Steps as S
 use Rattle.query.specs.Steps.{Selector}
-use Rattle.query.specs.Machine.{Control, root, done, gap, dotted, opened, closing, inside, tailDue, short, quoted}
+use Rattle.query.specs.Machine.{Control, root, done, gap, dotted, opened, closing, inPosition, inside, tailDue, short, quoted}
 use Rattle.query.specs.Read.{Placed, taking, named, Reading, good, bad, reading}
 
 -- the depth that is deep or not
@@ -22,25 +24,26 @@ abbrev pub depthOf : Bool → Depth
 depthOf true = deep
 depthOf false = plain
 
--- `*`, or the name that stands from one place of the query to another
-abbrev pub selectorAt : List ℕ → Bool → ℕ → ℕ → Selector
-selectorAt q true a b = S.every
-selectorAt q false a b = S.name (slice a b q)
+-- `*`; the name that stands from one place of the query to another; or a position
+abbrev pub selectorAt : List ℕ → Taking → Selector
+selectorAt q Every = S.every
+selectorAt q (Name a b) = S.name (slice a b q)
+selectorAt q (Position j) = S.position j
 
 -- the step that was found
 abbrev pub placedAt : List ℕ → Found → Placed
-placedAt q f = record { place = f .place; step = record { deep = f .deep; selector = selectorAt q (f .every) (f .start) (f .end) } }
+placedAt q f = record { place = f .place; step = record { deep = f .deep; selector = selectorAt q (f .taking) } }
 
 -- the place of the step, or of the dead byte
 abbrev pub readPlace : StepRead → ℕ
 readPlace (Taken f m) = f .place
 readPlace (Refused p) = p
 
--- its name, or nothing, stands in the query
-pub record Bounded (q : List ℕ) (f : Found) : Type 0 where
-  pub order : f .start ≤ f .end
-  pub within : f .end ≤ length q
-  pub none : f .every ≡ true → f .end ≤ f .start
+-- a name stands in the query, and a position is at most the largest that a query can have
+abbrev pub Bounded : List ℕ → Taking → Type 0
+Bounded q Every = Unit {0}
+Bounded q (Name a b) = (a ≤ b) × (b ≤ length q)
+Bounded q (Position j) = j ≤ maxPosition
 
 -- the step that is being read takes this, and then the others
 abbrev pub choose : Selector → Reading → Reading
@@ -70,8 +73,9 @@ Begun q place d root n = ⊥
 Begun q place d done n = ⊥
 Begun q place d gap n = ⊥
 Begun q place d (dotted e) n = putDots d (drop n q) ≡ drop place q
-Begun q place d opened n = putDeep d (0x5B ∷ drop n q) ≡ drop place q
+Begun q place d opened n = (w : Blanks) × (putDeep d (0x5B ∷ putBlanks w (drop n q)) ≡ drop place q)
 Begun q place d closing n = ⊥
+Begun q place d (inPosition v) n = ⊥
 Begun q place d (inside short) n = ⊥
 Begun q place d (inside (quoted x)) n = (w : Blanks) × (putDeep d (0x5B ∷ putBlanks w (quoteByte x ∷ drop n q)) ≡ drop place q)
 Begun q place d (tailDue p k h) n = ⊥
@@ -86,11 +90,11 @@ pub record SegmentAt (q : List ℕ) (f : Found) (m : ℕ) : Type 0 where
 pub record PartTaken (q : List ℕ) (c : Control) (n begin : ℕ) (deep : Bool) (f : Found) (m : ℕ) : Type 0 where
   pub place : f .place ≡ begin
   pub depth : f .deep ≡ deep
-  pub bounded : Bounded q f
+  pub bounded : Bounded q (f .taking)
   pub on : n < m
   pub within : m ≤ length q
   pub stands : Begun q begin (depthOf deep) c n → SegmentAt q f m
-  pub reads : reading c n (drop n q) ≡ choose (selectorAt q (f .every) (f .start) (f .end)) (reading done m (drop m q))
+  pub reads : reading c n (drop n q) ≡ choose (selectorAt q (f .taking)) (reading done m (drop m q))
 
 pub data PartRead (q : List ℕ) (c : Control) (n begin : ℕ) (deep : Bool) : StepRead → Type 0 where
   taken : (f : Found) (m : ℕ) → PartTaken q c n begin deep f m → PartRead q c n begin deep (Taken f m)
@@ -103,7 +107,7 @@ pub record StepTaken (q : List ℕ) (n : ℕ) (f : Found) (m : ℕ) : Type 0 whe
   pub written : putSpaced spaced [] ≡ slice n m q
   pub place : f .place ≡ n + length (spaced .before)
   pub step : placedAt q f .step ≡ segmentStep (spaced .segment)
-  pub bounded : Bounded q f
+  pub bounded : Bounded q (f .taking)
   pub on : n < m
   pub within : m ≤ length q
   pub reads : reading done n (drop n q) ≡ push (placedAt q f) (reading done m (drop m q))

@@ -7,7 +7,7 @@ ghost use lib.ListN.{length, getD};
 ghost use Rattle.encoding.specs.RowTable.{RowTable};
 ghost use Rattle.query.specs.Grammar.{Quote, quoteByte};
 ghost use Rattle.query.specs.Machine.{dotted, opened, inside, quoted};
-ghost use Rattle.query_lexer.specs.Scans.{deeperByte};
+ghost use Rattle.query_lexer.specs.Scans.{deeperByte, IsDigit};
 ghost use Rattle.query_steps.specs.Reader.{depthOf, readPlace, Closed, PartRead, StepAt};
 
 const DOT: u8 = b'.';
@@ -22,14 +22,19 @@ const SINGLE: u8 = 0x27;
 
 const DOUBLE: u8 = 0x22;
 
-// A step of the query: its kind, the place of the `.` or `[` that begins it, and its name's first byte and the byte after its last.
-// A step that takes `*` has no name, and its two bounds are 0.
+// What a step takes: everything; the name that stands between two places of the query, its first byte and the byte after its last; or a
+// position.
+pub enum Taking {
+    Every,
+    Name(usize, usize),
+    Position(u64),
+}
+
+// A step of the query: whether it is deep, the place of the `.` or `[` that begins it, and what it takes.
 pub struct Found {
     pub deep: bool,
-    pub every: bool,
     pub place: usize,
-    pub start: usize,
-    pub end: usize,
+    pub taking: Taking,
 }
 
 // What stands at a place: a step, and the place after it; or a refusal, and the place of the dead byte.
@@ -82,15 +87,27 @@ fn read_quoted(
     let end = name.at;
     let found = Found {
         deep,
-        every: false,
         place,
-        start: at,
-        end,
+        taking: Taking::Name(at, end),
     };
     close(query, found, end + 1)
 }
 
-// The rest of a step in brackets, from behind the opening one: blanks, a quoted name or `*`, blanks, the closing bracket.
+// A position and the end of its brackets, from the position's first digit on.
+fn read_position(query: &[u8], place: usize, deep: bool, at: usize) -> StepRead
+    requires { ⌜ (at < length (now query)) × IsDigit (getD (now query) at 0) ⌝ }
+    ensures { λ r. ⌜ PartRead (now (query .entry)) opened at place deep r ⌝ }
+{
+    let digits = query_lexer::position(query, at);
+    let found = Found {
+        deep,
+        place,
+        taking: Taking::Position(digits.number),
+    };
+    close(query, found, digits.at)
+}
+
+// The rest of a step in brackets, from behind the opening one: blanks, a quoted name, a position or `*`, blanks, the closing bracket.
 fn read_bracket(rows: &Rows, query: &[u8], place: usize, deep: bool, at: usize) -> StepRead
     requires { ⌜ (at ≤ length (now query)) × RowTable (now rows) ⌝ }
     ensures { λ r. ⌜ PartRead (now (query .entry)) opened at place deep r ⌝ }
@@ -103,10 +120,8 @@ fn read_bracket(rows: &Rows, query: &[u8], place: usize, deep: bool, at: usize) 
     if b == STAR {
         let found = Found {
             deep,
-            every: true,
             place,
-            start: 0,
-            end: 0,
+            taking: Taking::Every,
         };
         return close(query, found, inner + 1);
     }
@@ -115,6 +130,9 @@ fn read_bracket(rows: &Rows, query: &[u8], place: usize, deep: bool, at: usize) 
     }
     if b == DOUBLE {
         return read_quoted(rows, query, place, deep, DOUBLE, inner + 1);
+    }
+    if query_lexer::is_digit(b) {
+        return read_position(query, place, deep, inner);
     }
     StepRead::Refused(inner)
 }
@@ -131,10 +149,8 @@ fn read_short(rows: &Rows, query: &[u8], place: usize, deep: bool, at: usize) ->
         return StepRead::Taken(
             Found {
                 deep,
-                every: true,
                 place,
-                start: 0,
-                end: 0,
+                taking: Taking::Every,
             },
             at + 1,
         );
@@ -147,10 +163,8 @@ fn read_short(rows: &Rows, query: &[u8], place: usize, deep: bool, at: usize) ->
     StepRead::Taken(
         Found {
             deep,
-            every: false,
             place,
-            start: at,
-            end,
+            taking: Taking::Name(at, end),
         },
         end,
     )

@@ -11,8 +11,8 @@ returns c = short-end (c .if1 .taken)
 shared-slice-read-if2 : tie.Need-shared-slice-read-if2
 shared-slice-read-if2 c = search needs
 
-add-t13 : tie.Need-add-t13
-add-t13 c = search needs
+add-t14 : tie.Need-add-t14
+add-t14 c = search needs
 
 returns-2 : tie.Need-returns-2
 returns-2 c = short-every (c .before .before .if1 .left) (c .if2 .taken)
@@ -34,7 +34,7 @@ read-short-spec =
     (tie.spec
     returns
     shared-slice-read-if2
-    add-t13
+    add-t14
     returns-2
     shorthand-requires
     returns-3
