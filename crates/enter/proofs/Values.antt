@@ -182,6 +182,7 @@ module _ {x : List Step} {s : List ℕ} {whole : Tally} {z : Pile} {i : ℕ} {l 
         let o : Open =
         record {
           bracket = getD s i 0;
+          count = 0;
           state = v .state;
           wait = w;
           rest = v .rest;
@@ -194,7 +195,7 @@ module _ {x : List Step} {s : List ℕ} {whole : Tally} {z : Pile} {i : ℕ} {l 
         } in
         record {
           o = o;
-          level = level-new z o f′ m′ (passed-sized (v .after)) (passed-few (v .after)) (v .fits) frames-is (sym (v .marks-are)) g;
+          level = level-new z o f′ m′ (passed-sized (v .after)) refl (passed-few (v .after)) (v .fits) frames-is (sym (v .marks-are)) g;
           ahead =
               first-item (next x) s (v .rest) (kindAt (getD s i 0)) (v .state) (v .room) (v .inner) (v .end) (i + 1) c (tally l u h′ k)
               inside blanks e;

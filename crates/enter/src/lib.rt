@@ -36,6 +36,7 @@ fn container(
     held: &mut [u16; MAX_DEPTH],
     waits: &mut [usize; MAX_DEPTH],
     brackets: &mut [u8; MAX_DEPTH],
+    counts: &mut [u32; MAX_DEPTH],
     block: &mut [u64; KEPT],
 ) -> Standing
     requires { ⌜ ClassTable (now classes) ⌝ }
@@ -43,8 +44,8 @@ fn container(
     requires { ⌜ (a .depth ≤ maxDepth) × (a .frames ≤ maxDepth) ⌝ }
     requires { ⌜ Kept (now «record») (now block) ⌝ }
     ensures { λ r. ⌜ PassesContainer (now («record» .entry))
-        (pile (now (levels .entry)) (now (held .entry)) (now (waits .entry)) (now (brackets .entry)))
-        (pile (now (levels .exit)) (now (held .exit)) (now (waits .exit)) (now (brackets .exit)))
+        (pile (now (levels .entry)) (now (held .entry)) (now (waits .entry)) (now (brackets .entry)) (now (counts .entry)))
+        (pile (now (levels .exit)) (now (held .exit)) (now (waits .exit)) (now (brackets .exit)) (now (counts .exit)))
         (now (list .entry)) (now (list .exit)) v wait a r ⌝ }
     ensures { λ _. ⌜ Kept (now («record» .entry)) (now (block .exit)) ⌝ }
 {
@@ -92,6 +93,7 @@ fn container(
         held,
         waits,
         brackets,
+        counts,
     )
 }
 
@@ -106,6 +108,7 @@ pub fn value(
     held: &mut [u16; MAX_DEPTH],
     waits: &mut [usize; MAX_DEPTH],
     brackets: &mut [u8; MAX_DEPTH],
+    counts: &mut [u32; MAX_DEPTH],
     block: &mut [u64; KEPT],
 ) -> Standing
     requires { ⌜ ClassTable (now classes) ⌝ }
@@ -113,8 +116,8 @@ pub fn value(
     requires { ⌜ (a .depth ≤ maxDepth) × (a .frames ≤ maxDepth) ⌝ }
     requires { ⌜ Kept (now «record») (now block) ⌝ }
     ensures { λ r. ⌜ PassesValue (now («record» .entry))
-        (pile (now (levels .entry)) (now (held .entry)) (now (waits .entry)) (now (brackets .entry)))
-        (pile (now (levels .exit)) (now (held .exit)) (now (waits .exit)) (now (brackets .exit)))
+        (pile (now (levels .entry)) (now (held .entry)) (now (waits .entry)) (now (brackets .entry)) (now (counts .entry)))
+        (pile (now (levels .exit)) (now (held .exit)) (now (waits .exit)) (now (brackets .exit)) (now (counts .exit)))
         (now (list .entry)) (now (list .exit)) v a r ⌝ }
     ensures { λ _. ⌜ Kept (now («record» .entry)) (now (block .exit)) ⌝ }
 {
@@ -149,6 +152,7 @@ pub fn value(
         held,
         waits,
         brackets,
+        counts,
         block,
     )
 }

@@ -2,39 +2,47 @@
 use mathlib.Core.Path.{_≡_, refl, sym, ap, ap₂, subst, _∙_}
 use mathlib.Core.List.{List}
 use mathlib.Core.Bool.{Bool}
-use Prim.Native.Nat.{ℕ, _+_, _-_, _<_}
+use Prim.Native.Nat.{ℕ, _+_, _-_, _%_, _^_, _≤_, _<_}
+use native.Mathlib.Nat.{mod-eq-of-lt}
 use native.Mathlib.Omega.{arith}
 use lib.Dec.{eqb}
-use lib.ListN.{length, getD, drop}
+use lib.ListN.{length, getD, set, drop}
 use lib.Seq.{slice}
 use Rattle.json.specs.Grammar.{putKey, putValue, putMore}
+use Rattle.json.specs.Verdict.{maxBytes}
 use Rattle.query_parser.specs.Holds.{Holds}
 use Rattle.query.specs.Steps.{Step}
-use Rattle.query_parser.specs.declared.compiled.Compiled.{Compiled}
-use Rattle.select.specs.Nodes.{size, labelOf}
+use Rattle.query_parser.specs.declared.compiled.Kinds.{Kinds}
+use Rattle.select.specs.Nodes.{Label, size, labelOf}
 use Rattle.select.specs.Visits.{visits}
 use Rattle.select.specs.Ways.{frameIf}
 use Rattle.scan.specs.Places.{same-place, past-blanks, past-key}
 use Rattle.scan.specs.Scans.{EndsBlanks, EntersItem}
-use Rattle.marks.specs.Advances.{Advances}
+use Rattle.marks.specs.Advances.{labelBy, Advances}
 use Rattle.automaton.specs.State.{nextMarks, nextPicked, next}
 use Rattle.automaton.specs.Tally.{Tally, tallied}
 use Rattle.automaton.specs.Halves.{finish}
 use Rattle.walk.specs.Ahead.{valueAt}
 use Rattle.walk.specs.AheadLaws as A
 use Rattle.walk.specs.Labels.{label-is}
-use Rattle.pile.specs.Pile.{Pile, kindAt, ValuePassed, root, item, ItemDue, ValueDue}
-use Rattle.pile.specs.PileLaws.{popped}
-use Rattle.pile.specs.Moves.{Pops}
+use Rattle.pile.specs.Pile.{Pile, pile, kindAt, ValuePassed, root, item, ItemDue, ValueDue}
+use Rattle.pile.specs.PileLaws.{passed-sized, passed-counted, at-position, level-counted, popped}
+use Rattle.pile.specs.Moves.{Pops, CountsOn}
 
 -- an item is ahead; its value stands at v, its name from a to e
-module _ {q : List ℕ} {c : Compiled} {x : List Step} (holds : Holds q x c) {s : List ℕ} {whole : Tally} {z : Pile} {i : ℕ} {t : Tally} {d f m : ℕ}
-    {b : Bool} {v a e m′ : ℕ} {p : Bool} (due : ItemDue x s whole z i t d f m) (object : b ≡ eqb (getD (z .brackets) (d - 1) 0) 0x7B)
-    (enters : EntersItem s i b v a e) (advances : Advances q c m (slice a e s) b m′ p) where
+module _ {q : List ℕ} {kinds : Kinds} {ops : List ℕ} {x : List Step} (holds : Holds q x kinds ops) {s : List ℕ} {whole : Tally} {z : Pile}
+    {i : ℕ} {t : Tally} {d f m : ℕ} {b : Bool} {j v a e m′ : ℕ} {p : Bool} (due : ItemDue x s whole z i t d f m)
+    (object : b ≡ eqb (getD (z .brackets) (d - 1) 0) 0x7B) (index : j ≡ getD (z .counts) (d - 1) 0)
+    (enters : EntersItem s i b v a e) (advances : Advances q kinds ops m (labelBy b (slice a e s) j) m′ p) where
+  top-is : d - 1 ≡ due .o .depth
+  top-is = omega (arith, due .level .depth)
+
   object-is : b ≡ eqb (due .o .bracket) 0x7B
   object-is =
-      let y : d - 1 ≡ due .o .depth = omega (arith, due .level .depth) in
-      object ∙ ap (λ (n : ℕ). eqb (getD (z .brackets) n 0) 0x7B) y ∙ ap (λ (n : ℕ). eqb n 0x7B) (due .level .bracket)
+      object ∙ ap (λ (n : ℕ). eqb (getD (z .brackets) n 0) 0x7B) top-is ∙ ap (λ (n : ℕ). eqb n 0x7B) (due .level .bracket)
+
+  index-is : j ≡ due .o .count
+  index-is = index ∙ ap (λ (n : ℕ). getD (z .counts) n 0) top-is ∙ due .level .count
 
   pub item-due : ValueDue x s whole z v t m′ p d f m
   unfolding next
@@ -42,21 +50,22 @@ module _ {q : List ℕ} {c : Compiled} {x : List Step} (holds : Holds q x c) {s 
       let o = due .o in
       let y = due .ahead in
       let k = kindAt (o .bracket) in
-      let at = A.item-value (next x) s (o .rest) k (o .state) (o .room) (o .inner) (o .end) i t y in
-      let here = A.value-here (next x) s (o .rest) k (o .state) (o .room) (o .inner) (o .end) i t y in
+      let at = A.item-value (next x) s (o .rest) k (o .state) (o .room) (o .inner) (o .end) i (o .count) t y in
+      let here = A.value-here (next x) s (o .rest) k (o .state) (o .room) (o .inner) (o .end) i (o .count) t y in
       let rest = putMore (y .m) (o .rest) in
-      let l = labelOf k (y .key) (y .j) in
+      let l = labelOf k (y .key) (o .count) in
       let g = subst (λ (n : Bool). EntersItem s i n v a e) object-is enters .exact (y .w) (y .key) (putValue (y .v) rest) (y .here)
-      (A.key-solid (next x) s (o .rest) k (o .state) (o .room) (o .inner) (o .end) i t y) in
-      let label = label-is s (eqb (o .bracket) 0x7B) (y .key) (y .j) a e (g .1) in
-      let moves = subst (λ (n : Bool). Advances q c m (slice a e s) n m′ p) object-is advances in
+      (A.key-solid (next x) s (o .rest) k (o .state) (o .room) (o .inner) (o .end) i (o .count) t y) in
+      let label : labelBy b (slice a e s) j ≡ l =
+      ap₂ (λ (n : Bool) (h : ℕ). labelBy n (slice a e s) h) object-is index-is ∙ label-is s (eqb (o .bracket) 0x7B) (y .key) (o .count) a e (g .1) in
+      let moves = subst (λ (n : Label). Advances q kinds ops m n m′ p) label advances in
       let goal : Tally = tallied t (visits (next x) (y .v) (next x (o .state) l) v) in
-      let marks : m′ ≡ nextMarks x (o .state .marks) l = moves .marks-are x holds l label ∙ ap (λ (n : ℕ). nextMarks x n l) (due .level .marks) in
-      let picked : p ≡ nextPicked x (o .state .marks) l = moves .picked-is x holds l label ∙ ap (λ (n : ℕ). nextPicked x n l) (due .level .marks) in
+      let marks : m′ ≡ nextMarks x (o .state .marks) l = moves .marks-are x holds ∙ ap (λ (n : ℕ). nextMarks x n l) (due .level .marks) in
+      let picked : p ≡ nextPicked x (o .state .marks) l = moves .picked-is x holds ∙ ap (λ (n : ℕ). nextPicked x n l) (due .level .marks) in
       let u = putValue (y .v) rest in
       let place : v ≡ at =
       g .0
-      ∙ same-place s at (valueAt k i (y .w) (y .key)) (A.value-inside (next x) s (o .rest) k (o .state) (o .room) (o .inner) (o .end) i t y)
+      ∙ same-place s at (valueAt k i (y .w) (y .key)) (A.value-inside (next x) s (o .rest) k (o .state) (o .room) (o .inner) (o .end) i (o .count) t y)
       (here ∙ sym (past-key s (i + length (y .w)) k (y .key) u (past-blanks s i (y .w) (putKey k (y .key) u) (y .here)))) in
       record {
         state = next x (o .state) l;
@@ -74,14 +83,14 @@ module _ {q : List ℕ} {c : Compiled} {x : List Step} (holds : Holds q x c) {s 
             record {
               v = y .v;
               here = ap (λ (n : ℕ). drop n s) place ∙ here;
-              stops = A.value-stopped (next x) s (o .rest) k (o .state) (o .room) (o .inner) (o .end) i t y;
+              stops = A.value-stopped (next x) s (o .rest) k (o .state) (o .room) (o .inner) (o .end) i (o .count) t y;
               shallow = y .shallow;
               runs = refl;
               ends = refl;
             };
         after =
             item o (due .level)
-            (A.item-passed (next x) s (o .rest) k (o .state) (o .room) (o .inner) (o .end) i t y (v + size (y .v)) goal
+            (A.item-passed (next x) s (o .rest) k (o .state) (o .room) (o .inner) (o .end) i (o .count) t y (v + size (y .v)) goal
             (ap (λ (n : ℕ). n + size (y .v)) place)
             (ap (λ (n : ℕ). tallied t (visits (next x) (y .v) (next x (o .state) l) n)) (sym place)))
             (due .after);
@@ -93,25 +102,32 @@ module _ {x : List Step} {s : List ℕ} {whole : Tally} {z : Pile} {i : ℕ} {t 
   -- something follows
   pub past-inside : ValuePassed x s whole z i t d f m → c < length s
   past-inside (root h e1 e2 e3) = absurd (inner e1)
-  past-inside (item o l a p) = A.more-inside (next x) s (o .rest) (kindAt (o .bracket)) (o .state) (o .room) (o .inner) (o .end) i c t a blanks
+  past-inside (item o l a p) = A.more-inside (next x) s (o .rest) (kindAt (o .bracket)) (o .state) (o .room) (o .inner) (o .end) i (o .count + 1) c t a blanks
 
-  -- a comma, and then an item
-  pub past-comma : getD s c 0 ≡ 0x2C → ValuePassed x s whole z i t d f m → ItemDue x s whole z (c + 1) t d f m
-  past-comma e (root h e1 e2 e3) = absurd (inner e1)
-  past-comma e (item o l a p) =
-      record {
-        o = o;
-        level = l;
-        ahead = A.next-item (next x) s (o .rest) (kindAt (o .bracket)) (o .state) (o .room) (o .inner) (o .end) i c t a blanks e;
-        after = p;
-      }
+  -- a comma, and then an item, with which the container has one more
+  pub past-comma : {counts : List ℕ} → i ≤ maxBytes → getD s c 0 ≡ 0x2C → CountsOn (z .counts) (d - 1) counts → ValuePassed x s whole z i t d f m
+      → ItemDue x s whole (pile (z .levels) (z .held) (z .waits) (z .brackets) counts) (c + 1) t d f m
+  past-comma h e y (root k e1 e2 e3) = absurd (inner e1)
+  past-comma {counts} h e y (item o l a p) =
+      let n : d - 1 ≡ o .depth = omega (arith, l .depth) in
+      let j : getD (z .counts) (d - 1) 0 ≡ o .count = ap (λ (k : ℕ). getD (z .counts) k 0) n ∙ l .count in
+      let one : (getD (z .counts) (d - 1) 0 + 1) % 2 ^ 32 ≡ o .count + 1 =
+      ap (λ (k : ℕ). (k + 1) % 2 ^ 32) j ∙ mod-eq-of-lt (omega (arith, a .behind)) in
+      let now : counts ≡ set (z .counts) (o .depth) (o .count + 1) = y .is ∙ ap₂ (λ (k w : ℕ). set (z .counts) k w) n one in
+      rw now
+      (record {
+        o = at-position o (o .count + 1);
+        level = level-counted (o .count + 1) (passed-sized p) l;
+        ahead = A.next-item (next x) s (o .rest) (kindAt (o .bracket)) (o .state) (o .room) (o .inner) (o .end) i (o .count + 1) c t a blanks e;
+        after = passed-counted (o .depth) (o .count + 1) p;
+      })
 
   -- the closing bracket: the container is left
   pub past-closed : {f′ m′ : ℕ} → (getD s c 0 ≡ 0x2C → ⊥) → Pops (z .levels) (z .held) f (d - 1) m f′ m′ → ValuePassed x s whole z i t d f m
       → ValuePassed x s whole z (c + 1) (finish (getD (z .waits) (d - 1) 0) (c + 1) t) (d - 1) f′ m′
   past-closed e y (root h e1 e2 e3) = absurd (inner e1)
   past-closed {f′} {m′} e y (item o l a p) =
-      let n = A.no-more (next x) s (o .rest) (kindAt (o .bracket)) (o .state) (o .room) (o .inner) (o .end) i c t a blanks e in
+      let n = A.no-more (next x) s (o .rest) (kindAt (o .bracket)) (o .state) (o .room) (o .inner) (o .end) i (o .count + 1) c t a blanks e in
       let k : d - 1 ≡ o .depth = omega (arith, l .depth) in
       let w : getD (z .waits) (d - 1) 0 ≡ o .wait = ap (λ (j : ℕ). getD (z .waits) j 0) k ∙ l .wait in
       let g = popped l p (subst (λ (j : ℕ). Pops (z .levels) (z .held) f j m f′ m′) k y) in

@@ -8,7 +8,7 @@ use Rattle.json.specs.Grammar.{Tree, text, nesting}
 use Rattle.json.specs.Verdict.{maxDepth}
 use Rattle.query_parser.specs.Holds.{Holds}
 use Rattle.query.specs.Steps.{Step}
-use Rattle.query_parser.specs.declared.compiled.Compiled.{Compiled}
+use Rattle.query_parser.specs.declared.compiled.Kinds.{Kinds}
 use Rattle.select.specs.Nodes.{root}
 use Rattle.select.specs.Visits.{nodeVisits}
 use Rattle.automaton.specs.State.{next, start}
@@ -31,19 +31,20 @@ pub record BeforeRoot (s : List ℕ) (count : ℕ) (r : Standing) : Type 0 where
       → Due x s (tallied (fresh list) (nodeVisits (next x) (root t) (start x))) z list r
 
 -- the first byte of the value ahead, its marks, and whether it is picked out
-pub record Comes (q : List ℕ) (c : Compiled) (s : List ℕ) (brackets : List ℕ) (a : Standing) (r : Coming) : Type 0 where
+pub record Comes (q : List ℕ) (kinds : Kinds) (operands s brackets counts : List ℕ) (a : Standing) (r : Coming) : Type 0 where
   pub onward : a .at ≤ r .at
   pub within : r .at ≤ length s
-  pub due : (x : List Step) → Holds q x c → (whole : Tally) (levels held waits list : List ℕ) → Due x s whole (pile levels held waits brackets) list a
-      → ValueDue x s whole (pile levels held waits brackets) (r .at) (tallyAt list a) (r .marks) (r .picked) (a .depth) (a .frames) (a .marks)
+  pub due : (x : List Step) → Holds q x kinds operands → (whole : Tally) (levels held waits list : List ℕ)
+      → Due x s whole (pile levels held waits brackets counts) list a
+      → ValueDue x s whole (pile levels held waits brackets counts) (r .at) (tallyAt list a) (r .marks) (r .picked) (a .depth) (a .frames) (a .marks)
 
--- past a comma, or past the closing bracket of the innermost container
-pub record GoesOn (s : List ℕ) (levels held waits list list′ : List ℕ) (a r : Standing) : Type 0 where
+-- past a comma, with which the innermost container has one item more, or past its closing bracket
+pub record GoesOn (s : List ℕ) (levels held waits counts counts′ list list′ : List ℕ) (a r : Standing) : Type 0 where
   pub onward : Onward (length s) (a .at) r
   pub farther : a .at < r .at
   pub keeps : (x : List Step) (whole : Tally) (brackets : List ℕ)
-      → ValuePassed x s whole (pile levels held waits brackets) (a .at) (tallyAt list a) (a .depth) (a .frames) (a .marks)
-      → Due x s whole (pile levels held waits brackets) list′ r
+      → ValuePassed x s whole (pile levels held waits brackets counts) (a .at) (tallyAt list a) (a .depth) (a .frames) (a .marks)
+      → Due x s whole (pile levels held waits brackets counts′) list′ r
 
 -- how many turns there may still be, in a record of n bytes
 abbrev pub turnsLeft : (n i : ℕ) → (item : Bool) → ℕ
@@ -51,10 +52,10 @@ turnsLeft n i true = 2 * (n + 1 - i) + 1
 turnsLeft n i false = 2 * (n + 1 - i)
 
 -- one step
-pub record Turns (q : List ℕ) (c : Compiled) (s : List ℕ) (z z′ : Pile) (list list′ : List ℕ) (a r : Standing) : Type 0 where
+pub record Turns (q : List ℕ) (kinds : Kinds) (operands s : List ℕ) (z z′ : Pile) (list list′ : List ℕ) (a r : Standing) : Type 0 where
   pub fewer : turnsLeft (length s) (r .at) (r .item) < turnsLeft (length s) (a .at) (a .item)
   pub inside : (r .depth ≡ 0 → ⊥) → r .at ≤ length s
   pub in-container : r .item ≡ true → r .depth ≡ 0 → ⊥
   pub room : r .depth ≤ maxDepth
   pub few : r .frames ≤ maxDepth
-  pub keeps : (x : List Step) → Holds q x c → (whole : Tally) → Due x s whole z list a → Due x s whole z′ list′ r
+  pub keeps : (x : List Step) → Holds q x kinds operands → (whole : Tally) → Due x s whole z list a → Due x s whole z′ list′ r

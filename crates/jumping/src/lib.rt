@@ -8,10 +8,12 @@ use marks::advance;
 use pairs::Counts;
 use pile::Coming;
 use pile::Standing;
+use pile::count_item;
 use pile::lost;
 use pile::pass;
 use pile::pop_frame;
 use query_parser::Compiled;
+use query_parser::Kinds;
 use scan::enter_item;
 use scan::skip_blanks;
 ghost use mathlib.Core.Path.{_≡_};
@@ -21,7 +23,7 @@ ghost use lib.ListN.{length};
 ghost use Rattle.encoding.specs.ClassTable.{ClassTable};
 ghost use Rattle.json.specs.Verdict.{maxBytes, maxDepth};
 ghost use Rattle.leap.specs.Passing.{Kept};
-ghost use Rattle.marks.specs.Advances.{Fits, Bounds};
+ghost use Rattle.query_parser.specs.Holds.{Fits};
 ghost use Rattle.walk.specs.Walks.{Walks};
 ghost use Rattle.pile.specs.Pile.{pile};
 ghost use Rattle.jumping.specs.Turns.{RootMarks, BeforeRoot, Comes, GoesOn, Turns};
@@ -59,20 +61,27 @@ fn start(record: &[u8], count: usize) -> Standing
     }
 }
 
+fn wide(x: u32) -> usize
+    ensures { λ r. ⌜ r ≡ x ⌝ }
+{
+    x as usize
+}
+
 // The value ahead: the root, or that of the next item of the innermost container, with the marks that its label leads to.
 fn coming(
     query: &[u8],
-    steps: Compiled,
-    starts: &[u16; 16],
-    ends: &[u16; 16],
+    kinds: Kinds,
+    operands: &[u64; 16],
     record: &[u8],
     a: Standing,
     brackets: &[u8; MAX_DEPTH],
+    counts: &[u32; MAX_DEPTH],
 ) -> Coming
-    requires { ⌜ Fits (now query) steps × Bounds steps (now starts) (now ends) ⌝ }
+    requires { ⌜ Fits (now query) kinds (now operands) ⌝ }
     requires { ⌜ a .at ≤ length (now «record») ⌝ }
     requires { ⌜ (a .item ≡ true) × (a .depth ≤ maxDepth) ⌝ }
-    ensures { λ r. ⌜ Comes (now (query .entry)) steps (now («record» .entry)) (now (brackets .entry)) a r ⌝ }
+    ensures { λ r. ⌜ Comes (now (query .entry)) kinds (now (operands .entry)) (now («record» .entry)) (now (brackets .entry))
+        (now (counts .entry)) a r ⌝ }
 {
     let at = a.at;
     let marks = a.marks;
@@ -80,15 +89,26 @@ fn coming(
         return Coming {
             at,
             marks,
-            picked: steps.count == 0,
+            picked: kinds.count == 0,
         };
     }
     let top = a.depth - 1;
     let object = brackets[top] == OBJECT;
+    let index = wide(counts[top]);
     let item = enter_item(record, at, object);
     let from = item.from;
     let to = item.to;
-    let child = advance(query, steps, starts, ends, marks, record, from, to, object);
+    let child = advance(
+        query,
+        kinds,
+        operands,
+        marks,
+        record,
+        from,
+        to,
+        object,
+        index,
+    );
     Coming {
         at: item.value,
         marks: child.marks,
@@ -104,18 +124,21 @@ fn past(
     levels: &[u16; MAX_DEPTH],
     held: &[u16; MAX_DEPTH],
     waits: &[usize; MAX_DEPTH],
+    counts: &mut [u32; MAX_DEPTH],
 ) -> Standing
     requires { ⌜ (length (now «record») ≤ maxBytes) × (a .at ≤ length (now «record»)) ⌝ }
     requires { ⌜ (a .depth ≤ maxDepth) × (a .frames ≤ maxDepth) × (a .depth ≡ 0 → ⊥) ⌝ }
     ensures { λ r. ⌜ GoesOn (now («record» .entry)) (now (levels .entry)) (now (held .entry)) (now (waits .entry))
-        (now (list .entry)) (now (list .exit)) a r ⌝ }
+        (now (counts .entry)) (now (counts .exit)) (now (list .entry)) (now (list .exit)) a r ⌝ }
 {
     let at = a.at;
     let next = skip_blanks(record, at);
     if next >= record.len() {
         return lost(a, at);
     }
+    let top = a.depth - 1;
     if record[next] == COMMA {
+        count_item(counts, top);
         let after = next + 1;
         return Standing {
             at: after,
@@ -128,7 +151,6 @@ fn past(
             stop: a.stop,
         };
     }
-    let top = a.depth - 1;
     let around = pop_frame(levels, held, a.frames, top, a.marks);
     let b = Standing {
         at,
@@ -148,9 +170,8 @@ fn past(
 fn turn(
     classes: &[u8; 256],
     query: &[u8],
-    steps: Compiled,
-    starts: &[u16; 16],
-    ends: &[u16; 16],
+    kinds: Kinds,
+    operands: &[u64; 16],
     record: &[u8],
     a: Standing,
     list: &mut [u32],
@@ -158,23 +179,24 @@ fn turn(
     held: &mut [u16; MAX_DEPTH],
     waits: &mut [usize; MAX_DEPTH],
     brackets: &mut [u8; MAX_DEPTH],
+    counts: &mut [u32; MAX_DEPTH],
     block: &mut [u64; KEPT],
 ) -> Standing
     requires { ⌜ ClassTable (now classes) ⌝ }
-    requires { ⌜ Fits (now query) steps × Bounds steps (now starts) (now ends) ⌝ }
+    requires { ⌜ Fits (now query) kinds (now operands) ⌝ }
     requires { ⌜ (length (now «record») ≤ maxBytes) × (a .at ≤ length (now «record»)) ⌝ }
     requires { ⌜ (a .depth ≤ maxDepth) × (a .frames ≤ maxDepth) × (a .item ≡ false → a .depth ≡ 0 → ⊥) ⌝ }
     requires { ⌜ Kept (now «record») (now block) ⌝ }
-    ensures { λ r. ⌜ Turns (now (query .entry)) steps (now («record» .entry))
-        (pile (now (levels .entry)) (now (held .entry)) (now (waits .entry)) (now (brackets .entry)))
-        (pile (now (levels .exit)) (now (held .exit)) (now (waits .exit)) (now (brackets .exit)))
+    ensures { λ r. ⌜ Turns (now (query .entry)) kinds (now (operands .entry)) (now («record» .entry))
+        (pile (now (levels .entry)) (now (held .entry)) (now (waits .entry)) (now (brackets .entry)) (now (counts .entry)))
+        (pile (now (levels .exit)) (now (held .exit)) (now (waits .exit)) (now (brackets .exit)) (now (counts .exit)))
         (now (list .entry)) (now (list .exit)) a r ⌝ }
     ensures { λ _. ⌜ Kept (now («record» .entry)) (now (block .exit)) ⌝ }
 {
     if !a.item {
-        return past(record, a, list, levels, held, waits);
+        return past(record, a, list, levels, held, waits, counts);
     }
-    let v = coming(query, steps, starts, ends, record, a, brackets);
+    let v = coming(query, kinds, operands, record, a, brackets, counts);
     value(
         classes,
         record,
@@ -185,6 +207,7 @@ fn turn(
         held,
         waits,
         brackets,
+        counts,
         block,
     )
 }
@@ -192,26 +215,26 @@ fn turn(
 // Lists the nodes of a checked record that a query picks out, and counts frames, by the jumping walk: what the list holds and the counts
 // are the tally of all nodes. Where the list has too few pairs it holds the first nodes, and the walk says where the first one left over is.
 pub fn walk_jumping(query: &[u8], steps: Compiled, record: &[u8], list: &mut [u32]) -> Counts
-    requires { ⌜ Fits (now query) steps ⌝ }
+    requires { ⌜ Fits (now query) (steps .kinds) (steps .operands) ⌝ }
     requires { ⌜ length (now «record») ≤ maxBytes ⌝ }
-    ensures { λ r. ⌜ Walks (now (query .entry)) steps (now («record» .entry)) (now (list .entry)) (now (list .exit)) (r .used) (r .peak) (r .stop) ⌝ }
+    ensures { λ r. ⌜ Walks (now (query .entry)) (steps .kinds) (steps .operands) (now («record» .entry)) (now (list .entry)) (now (list .exit)) (r .used) (r .peak) (r .stop) ⌝ }
 {
     let classes = classes();
-    let starts = steps.starts;
-    let ends = steps.ends;
+    let kinds = steps.kinds;
+    let operands = steps.operands;
     let mut levels: [u16; MAX_DEPTH] = [0; MAX_DEPTH];
     let mut held: [u16; MAX_DEPTH] = [0; MAX_DEPTH];
     let mut waits: [usize; MAX_DEPTH] = [0; MAX_DEPTH];
     let mut brackets: [u8; MAX_DEPTH] = [0; MAX_DEPTH];
+    let mut counts: [u32; MAX_DEPTH] = [0; MAX_DEPTH];
     let mut block = none_kept();
-    let mut a = start(record, steps.count);
+    let mut a = start(record, kinds.count);
     loop {
         a = turn(
             &classes,
             query,
-            steps,
-            &starts,
-            &ends,
+            kinds,
+            &operands,
             record,
             a,
             list,
@@ -219,6 +242,7 @@ pub fn walk_jumping(query: &[u8], steps: Compiled, record: &[u8], list: &mut [u3
             &mut held,
             &mut waits,
             &mut brackets,
+            &mut counts,
             &mut block,
         );
         let depth = a.depth;

@@ -30,7 +30,7 @@ module _ (q r : List ℕ) {o : Outcome} (read : QueryRead q o) where
     query-taken : queryVerdict q .ground ≡ 0
     query-taken = sym (read .ground) ∙ z
 
-    held : Holds q (stepsIn q) (o .steps)
+    held : Holds q (stepsIn q) (o .steps .kinds) (o .steps .operands)
     held = rw query-taken at (read .steps)
 
     pub record-checked : Admits q r (record { ground = v .ground; place = v .place; steps = o .steps })

@@ -16,7 +16,7 @@ pub record Admits (q r : List ℕ) (x : Input) : Type 0 where
   pub place-small : x .place ≤ maxBytes
   pub query-taken : x .ground ≡ 0 → queryVerdict q .ground ≡ 0
   pub record-taken : x .ground ≡ 0 → recordVerdict r .ground ≡ 0
-  pub steps-are : x .ground ≡ 0 → Holds q (stepsIn q) (x .steps)
+  pub steps-are : x .ground ≡ 0 → Holds q (stepsIn q) (x .steps .kinds) (x .steps .operands)
 
 abbrev pub refusal : (ground place : ℕ) → Answer
 refusal g p = record { ground = g; place = p; pairs = 0; peak = 0 }

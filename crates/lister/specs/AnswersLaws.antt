@@ -7,6 +7,7 @@ use native.Mathlib.Omega.{arith}
 use lib.ListN.{length, length-take}
 use Rattle.json.specs.Grammar.{Tree}
 use Rattle.json.specs.Verdict.{maxBytes}
+use Rattle.query_parser.specs.Holds.{Fits}
 use Rattle.query.specs.Verdict.{stepsIn}
 use Rattle.select.specs.Ways.{spans}
 use Rattle.answers.specs.Lister.{pairsOf}
@@ -15,7 +16,6 @@ use Rattle.answers.specs.WithinLaws.{taken-record}
 use Rattle.automaton.specs.Bounds.{spans-few, peak-few, stop-few}
 use Rattle.automaton.specs.Lists.{lists-all, lists-left}
 use Rattle.automaton.specs.TallyIs.{Whole, tally-is}
-use Rattle.marks.specs.Advances.{Fits}
 use Rattle.pairs.specs.Pairs.{tally}
 use Rattle.pairs.specs.declared.Counts.{Counts}
 use Rattle.walk.specs.Walks.{Walks}
@@ -31,16 +31,8 @@ module _ {q r : List ℕ} {x : Input} (admitted : Admits q r x) where
 
   -- taken: the names lie in the query, and the record has a tree within the limits
   module _ (z : x .ground ≡ 0) where
-    pub fits : Fits q (x .steps)
-    fits =
-        let held = admitted .steps-are z in
-        record {
-          few = omega (arith, held .count, held .few);
-          starts-length = held .starts-length;
-          ends-length = held .ends-length;
-          order = held .order;
-          within = held .within;
-        }
+    pub fits : Fits q (x .steps .kinds) (x .steps .operands)
+    fits = admitted .steps-are z .fits
 
     the-tree : Tree
     the-tree = taken-record r (admitted .record-taken z) .0
@@ -53,7 +45,7 @@ module _ {q r : List ℕ} {x : Input} (admitted : Admits q r x) where
     record-short = the-record .bytes
 
     -- a walk over both
-    module _ {l after : List ℕ} {c : Counts} (walked : Walks q (x .steps) r l after (c .used) (c .peak) (c .stop)) where
+    module _ {l after : List ℕ} {c : Counts} (walked : Walks q (x .steps .kinds) (x .steps .operands) r l after (c .used) (c .peak) (c .stop)) where
       whole : Whole (stepsIn q) the-tree l (tally after (c .used) (c .peak) (c .stop))
       whole =
           rw (walked .counts (stepsIn q) (admitted .steps-are z) the-tree (the-record .written) (the-record .levels)) at

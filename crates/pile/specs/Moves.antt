@@ -3,8 +3,8 @@ use mathlib.Core.Path.{_≡_}
 use mathlib.Core.List.{List}
 use mathlib.Core.Logic.{_⊎_}
 use mathlib.Core.Bool.{Bool, true, false}
-use Prim.Native.Nat.{ℕ, _+_}
-use lib.ListN.{getD}
+use Prim.Native.Nat.{ℕ, _+_, _%_, _^_}
+use lib.ListN.{getD, set}
 use Rattle.automaton.specs.Halves.{endPair}
 use Rattle.pile.specs.Pile.{Pile, kept}
 use Rattle.pile.specs.declared.Standing.{Standing}
@@ -14,6 +14,10 @@ use Rattle.pile.specs.declared.Coming.{Coming}
 pub data Pops (levels held : List ℕ) (f d m : ℕ) : (f′ m′ : ℕ) → Type 0 where
   other : ((k : ℕ) → f ≡ k + 1 → getD levels k 0 ≡ d → ⊥) → Pops levels held f d m f m
   topmost : (k : ℕ) → f ≡ k + 1 → getD levels k 0 ≡ d → Pops levels held f d m k (getD held k 0)
+
+-- one item more is counted at depth d; a count that has no room for one more begins anew, which no record comes to
+pub record CountsOn (counts : List ℕ) (d : ℕ) (counts′ : List ℕ) : Type 0 where
+  pub is : counts′ ≡ set counts d ((getD counts d 0 + 1) % 2 ^ 32)
 
 -- the walk ends at place i, where no tree explains the bytes
 pub record Lost (i : ℕ) (a r : Standing) : Type 0 where

@@ -16,30 +16,40 @@ use Rattle.automaton.specs.Halves.{finish}
 use Rattle.walk.specs.Ahead.{ItemAhead, MoreAhead, ItemsAhead, ValueAhead}
 
 -- by frame: the depth around the container that it was pushed for, and the marks around it;
--- by depth: the pair that waits for a container's end, plus one, or 0; and its opening bracket
+-- by depth: the pair that waits for a container's end, plus one, or 0; its opening bracket; and the position of its item that is ahead or
+-- in which the walk stands
 pub record Pile : Type 0 where
   pub levels : List ℕ
   pub held : List ℕ
   pub waits : List ℕ
   pub brackets : List ℕ
+  pub counts : List ℕ
 
-abbrev pub pile : (levels held waits brackets : List ℕ) → Pile
-pile l h w b = record { levels = l; held = h; waits = w; brackets = b }
+abbrev pub pile : (levels held waits brackets counts : List ℕ) → Pile
+pile l h w b c = record { levels = l; held = h; waits = w; brackets = b; counts = c }
 
--- a container kept on the pile: the depth d and the marks m around it in the slot after f frames, its pair and its bracket at its depth
+-- a container kept on the pile: the depth d and the marks m around it in the slot after f frames; its pair, its bracket and the position of
+-- its first item at its depth
 abbrev pub kept : Pile → (f d m wait bracket : ℕ) → Pile
-kept z f d m w b = pile (set (z .levels) f d) (set (z .held) f m) (set (z .waits) d w) (set (z .brackets) d b)
+kept z f d m w b = pile (set (z .levels) f d) (set (z .held) f m) (set (z .waits) d w) (set (z .brackets) d b) (set (z .counts) d 0)
+
+-- the position j in the container at depth d
+abbrev pub counted : Pile → (d j : ℕ) → Pile
+counted z d j = pile (z .levels) (z .held) (z .waits) (z .brackets) (set (z .counts) d j)
 
 pub record Sized (z : Pile) : Type 0 where
   pub levels : length (z .levels) ≡ maxDepth
   pub held : length (z .held) ≡ maxDepth
   pub waits : length (z .waits) ≡ maxDepth
   pub brackets : length (z .brackets) ≡ maxDepth
+  pub counts : length (z .counts) ≡ maxDepth
 
--- an open container: its opening bracket, its state, the pair that waits for its end, what stands after it, how many levels may be opened
--- in it, the tally once its items are passed and the place after it; and the depth, the frames and the marks around it
+-- an open container: its opening bracket, the position of its item that is ahead or in which the walk stands, its state, the pair that waits
+-- for its end, what stands after it, how many levels may be opened in it, the tally once its items are passed and the place after it; and the
+-- depth, the frames and the marks around it
 pub record Open : Type 0 where
   pub bracket : ℕ
+  pub count : ℕ
   pub state : State
   pub wait : ℕ
   pub rest : List ℕ
@@ -66,6 +76,7 @@ pub record Level (z : Pile) (o : Open) (d f m : ℕ) : Type 0 where
   pub marks : m ≡ o .state .marks
   pub wait : getD (z .waits) (o .depth) 0 ≡ o .wait
   pub bracket : getD (z .brackets) (o .depth) 0 ≡ o .bracket
+  pub count : getD (z .counts) (o .depth) 0 ≡ o .count
   pub frame : Framed z o f m
 
 -- in a record s, with the steps x of a query; all that is ahead comes to the tally whole
@@ -75,7 +86,7 @@ module _ (x : List Step) (s : List ℕ) (whole : Tally) (z : Pile) where
   pub data ValuePassed : (i : ℕ) → Tally → (d f m : ℕ) → Type 0 where
     root : {i : ℕ} {t : Tally} {d f m : ℕ} → Sized z → d ≡ 0 → f ≡ 0 → t ≡ whole → ValuePassed i t d f m
     item : {i : ℕ} {t : Tally} {d f m : ℕ} (o : Open) → Level z o d f m
-        → MoreAhead (next x) s (o .rest) (kindAt (o .bracket)) (o .state) (o .room) (o .inner) (o .end) i t
+        → MoreAhead (next x) s (o .rest) (kindAt (o .bracket)) (o .state) (o .room) (o .inner) (o .end) i (o .count + 1) t
         → ValuePassed (o .end) (finish (o .wait) (o .end) (o .inner)) (o .depth) (o .frames) (o .marks) → ValuePassed i t d f m
 
   -- what is ahead after the container o
@@ -86,7 +97,7 @@ module _ (x : List Step) (s : List ℕ) (whole : Tally) (z : Pile) where
   pub record ItemDue (i : ℕ) (t : Tally) (d f m : ℕ) : Type 0 where
     pub o : Open
     pub level : Level z o d f m
-    pub ahead : ItemAhead (next x) s (o .rest) (kindAt (o .bracket)) (o .state) (o .room) (o .inner) (o .end) i t
+    pub ahead : ItemAhead (next x) s (o .rest) (kindAt (o .bracket)) (o .state) (o .room) (o .inner) (o .end) i (o .count) t
     pub after : After o
 
   -- a value is ahead, with the marks m′, picked out or not

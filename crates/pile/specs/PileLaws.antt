@@ -13,17 +13,14 @@ use Rattle.query.specs.Steps.{Step}
 use Rattle.json.specs.Verdict.{maxDepth}
 use Rattle.select.specs.Ways.{frameIf}
 use Rattle.automaton.specs.Tally.{Tally}
-use Rattle.pile.specs.Pile.{Pile, pile, kept, Sized, Open, Framed, shared, own, Level, ValuePassed, root, item}
+use Rattle.pile.specs.Pile.{Pile, pile, kept, counted, Sized, Open, Framed, shared, own, Level, ValuePassed, root, item}
 use Rattle.pile.specs.Moves.{Pops, other, topmost}
 
-pub pile-same : {l l′ h h′ w b : List ℕ} → l ≡ l′ → h ≡ h′ → pile l h w b ≡ pile l′ h′ w b
-pile-same e1 e2 = cc
-
 -- the arrays before the walk
-pub clear-sized : Sized (pile (replicate maxDepth 0) (replicate maxDepth 0) (replicate maxDepth 0) (replicate maxDepth 0))
+pub clear-sized : Sized (pile (replicate maxDepth 0) (replicate maxDepth 0) (replicate maxDepth 0) (replicate maxDepth 0) (replicate maxDepth 0))
 clear-sized =
     let clear = length-replicate {A = ℕ} maxDepth 0 in
-    record { levels = clear; held = clear; waits = clear; brackets = clear }
+    record { levels = clear; held = clear; waits = clear; brackets = clear; counts = clear }
 
 pub pops-few : {levels held : List ℕ} {f d m f′ m′ : ℕ} → Pops levels held f d m f′ m′ → f′ ≤ f
 pops-few (other n) = omega arith
@@ -67,44 +64,122 @@ module _ {x : List Step} {s : List ℕ} {whole : Tally} {z : Pile} where
       → Pops (z .levels) (z .held) f (o .depth) m f′ m′ → (f′ ≡ o .frames) × (m′ ≡ o .marks)
   popped l p q = framed-popped (l .frame) (λ k e. passed-top k e p) q
 
--- a container that is kept above the pile leaves what is below
-module _ {z : Pile} (f d m w b : ℕ) where
-  framed-kept : {o : Open} {f′ m′ : ℕ} → f′ ≤ f → Framed z o f′ m′ → Framed (kept z f d m w b) o f′ m′
-  framed-kept h (shared e1 e2) = shared e1 e2
-  framed-kept {o} h (own e1 e2 e3) =
-      own e1
-      (getD-set-other (z .levels) f (o .frames) d 0 (λ e. omega arith) ∙ e2)
-      (getD-set-other (z .held) f (o .frames) m 0 (λ e. omega arith) ∙ e3)
+-- two piles that agree in the first f frames and below depth d hold the same open containers there
+record Agree (z z′ : Pile) (f d : ℕ) : Type 0 where
+  levels : (k : ℕ) → k < f → getD (z′ .levels) k 0 ≡ getD (z .levels) k 0
+  held : (k : ℕ) → k < f → getD (z′ .held) k 0 ≡ getD (z .held) k 0
+  waits : (k : ℕ) → k < d → getD (z′ .waits) k 0 ≡ getD (z .waits) k 0
+  brackets : (k : ℕ) → k < d → getD (z′ .brackets) k 0 ≡ getD (z .brackets) k 0
+  counts : (k : ℕ) → k < d → getD (z′ .counts) k 0 ≡ getD (z .counts) k 0
+  sized : Sized z → Sized z′
 
-  level-kept : {o : Open} {d′ f′ m′ : ℕ} → f′ ≤ f → d′ ≤ d → Level z o d′ f′ m′ → Level (kept z f d m w b) o d′ f′ m′
-  level-kept {o} h g l =
+module _ {z z′ : Pile} {f d : ℕ} (same : Agree z z′ f d) where
+  framed-as : {o : Open} {f′ m′ : ℕ} → f′ ≤ f → Framed z o f′ m′ → Framed z′ o f′ m′
+  framed-as h (shared e1 e2) = shared e1 e2
+  framed-as {o} h (own e1 e2 e3) = own e1 (same .levels (o .frames) (omega arith) ∙ e2) (same .held (o .frames) (omega arith) ∙ e3)
+
+  level-as : {o : Open} {d′ f′ m′ : ℕ} → f′ ≤ f → d′ ≤ d → Level z o d′ f′ m′ → Level z′ o d′ f′ m′
+  level-as {o} h g l =
+      let e : o .depth < d = omega (arith, l .depth) in
       record {
         depth = l .depth;
         fits = l .fits;
         frames = l .frames;
         marks = l .marks;
-        wait = getD-set-other (z .waits) d (o .depth) w 0 (λ e. omega (arith, l .depth)) ∙ l .wait;
-        bracket = getD-set-other (z .brackets) d (o .depth) b 0 (λ e. omega (arith, l .depth)) ∙ l .bracket;
-        frame = framed-kept h (l .frame);
-      }
-
-  sized-kept : Sized z → Sized (kept z f d m w b)
-  sized-kept h =
-      record {
-        levels = length-set (z .levels) f d ∙ h .levels;
-        held = length-set (z .held) f m ∙ h .held;
-        waits = length-set (z .waits) d w ∙ h .waits;
-        brackets = length-set (z .brackets) d b ∙ h .brackets;
+        wait = same .waits (o .depth) e ∙ l .wait;
+        bracket = same .brackets (o .depth) e ∙ l .bracket;
+        count = same .counts (o .depth) e ∙ l .count;
+        frame = framed-as h (l .frame);
       }
 
   framed-below : {o : Open} {f′ m′ : ℕ} → Framed z o f′ m′ → f′ ≤ f → o .frames ≤ f
   framed-below (shared e1 e2) h = omega arith
   framed-below (own e1 e2 e3) h = omega arith
 
-  pub passed-kept : {x : List Step} {s : List ℕ} {whole : Tally} {i : ℕ} {t : Tally} {d′ f′ m′ : ℕ} → f′ ≤ f → d′ ≤ d
-      → ValuePassed x s whole z i t d′ f′ m′ → ValuePassed x s whole (kept z f d m w b) i t d′ f′ m′
-  passed-kept h g (root y e1 e2 e3) = root (sized-kept y) e1 e2 e3
-  passed-kept h g (item o l a p) = item o (level-kept h g l) a (passed-kept (framed-below (l .frame) h) (omega (arith, l .depth)) p)
+  passed-as : {x : List Step} {s : List ℕ} {whole : Tally} {i : ℕ} {t : Tally} {d′ f′ m′ : ℕ} → f′ ≤ f → d′ ≤ d
+      → ValuePassed x s whole z i t d′ f′ m′ → ValuePassed x s whole z′ i t d′ f′ m′
+  passed-as h g (root y e1 e2 e3) = root (same .sized y) e1 e2 e3
+  passed-as h g (item o l a p) = item o (level-as h g l) a (passed-as (framed-below (l .frame) h) (omega (arith, l .depth)) p)
+
+-- a container that is kept above the pile leaves what is below
+kept-agrees : (z : Pile) (f d m w b : ℕ) → Agree z (kept z f d m w b) f d
+kept-agrees z f d m w b =
+    record {
+      levels = λ k h. getD-set-other (z .levels) f k d 0 (λ e. omega arith);
+      held = λ k h. getD-set-other (z .held) f k m 0 (λ e. omega arith);
+      waits = λ k h. getD-set-other (z .waits) d k w 0 (λ e. omega arith);
+      brackets = λ k h. getD-set-other (z .brackets) d k b 0 (λ e. omega arith);
+      counts = λ k h. getD-set-other (z .counts) d k 0 0 (λ e. omega arith);
+      sized = λ h.
+          record {
+            levels = length-set (z .levels) f d ∙ h .levels;
+            held = length-set (z .held) f m ∙ h .held;
+            waits = length-set (z .waits) d w ∙ h .waits;
+            brackets = length-set (z .brackets) d b ∙ h .brackets;
+            counts = length-set (z .counts) d 0 ∙ h .counts;
+          };
+    }
+
+pub passed-kept : {z : Pile} (f d m w b : ℕ) {x : List Step} {s : List ℕ} {whole : Tally} {i : ℕ} {t : Tally} {d′ f′ m′ : ℕ} → f′ ≤ f → d′ ≤ d
+    → ValuePassed x s whole z i t d′ f′ m′ → ValuePassed x s whole (kept z f d m w b) i t d′ f′ m′
+passed-kept {z} f d m w b h g p = passed-as (kept-agrees z f d m w b) h g p
+
+-- a position that is counted leaves the containers around, and the frames
+counted-agrees : (z : Pile) (f d j : ℕ) → Agree z (counted z d j) f d
+counted-agrees z f d j =
+    record {
+      levels = λ k h. refl;
+      held = λ k h. refl;
+      waits = λ k h. refl;
+      brackets = λ k h. refl;
+      counts = λ k h. getD-set-other (z .counts) d k j 0 (λ e. omega arith);
+      sized = λ h.
+          record {
+            levels = h .levels;
+            held = h .held;
+            waits = h .waits;
+            brackets = h .brackets;
+            counts = length-set (z .counts) d j ∙ h .counts;
+          };
+    }
+
+pub passed-counted : {z : Pile} (d j : ℕ) {x : List Step} {s : List ℕ} {whole : Tally} {i : ℕ} {t : Tally} {f m : ℕ}
+    → ValuePassed x s whole z i t d f m → ValuePassed x s whole (counted z d j) i t d f m
+passed-counted {z} d j {f = f} p = passed-as (counted-agrees z f d j) (omega arith) (omega arith) p
+
+-- the container o with the item at position j ahead
+abbrev pub at-position : Open → ℕ → Open
+at-position o j =
+    record {
+      bracket = o .bracket;
+      count = j;
+      state = o .state;
+      wait = o .wait;
+      rest = o .rest;
+      room = o .room;
+      inner = o .inner;
+      end = o .end;
+      depth = o .depth;
+      frames = o .frames;
+      marks = o .marks;
+    }
+
+framed-counted : {z : Pile} {o : Open} {f m : ℕ} (j : ℕ) → Framed z o f m → Framed (counted z (o .depth) j) (at-position o j) f m
+framed-counted j (shared e1 e2) = shared e1 e2
+framed-counted j (own e1 e2 e3) = own e1 e2 e3
+
+pub level-counted : {z : Pile} {o : Open} {d f m : ℕ} (j : ℕ) → Sized z → Level z o d f m → Level (counted z (o .depth) j) (at-position o j) d f m
+level-counted {z} {o} j y l =
+    record {
+      depth = l .depth;
+      fits = l .fits;
+      frames = l .frames;
+      marks = l .marks;
+      wait = l .wait;
+      bracket = l .bracket;
+      count = getD-set-same (z .counts) (o .depth) j 0 (omega (arith, y .counts, l .depth, l .fits));
+      frame = framed-counted j (l .frame);
+    }
 
 -- and it is on the pile then
 module _ (z : Pile) (o : Open) where
@@ -119,9 +194,9 @@ module _ (z : Pile) (o : Open) where
       go true e = shared refl (sym (eqb-true (o .marks) m e))
       go false e = own refl (getD-set-same (z .levels) (o .frames) (o .depth) 0 h) (getD-set-same (z .held) (o .frames) (o .marks) 0 g)
 
-  pub level-new : (f m : ℕ) → Sized z → o .frames ≤ o .depth → o .depth + 1 + o .room ≤ maxDepth
+  pub level-new : (f m : ℕ) → Sized z → o .count ≡ 0 → o .frames ≤ o .depth → o .depth + 1 + o .room ≤ maxDepth
       → f ≡ o .state .frames → m ≡ o .state .marks → f ≡ frameIf (eqb (o .marks) m) (o .frames) → Level withOpen o (o .depth + 1) f m
-  level-new f m y h g e1 e2 e3 =
+  level-new f m y e0 h g e1 e2 e3 =
       record {
         depth = refl;
         fits = g;
@@ -129,5 +204,6 @@ module _ (z : Pile) (o : Open) where
         marks = e2;
         wait = getD-set-same (z .waits) (o .depth) (o .wait) 0 (omega (arith, y .waits));
         bracket = getD-set-same (z .brackets) (o .depth) (o .bracket) 0 (omega (arith, y .brackets));
+        count = getD-set-same (z .counts) (o .depth) 0 0 (omega (arith, y .counts)) ∙ sym e0;
         frame = rw e3 (framed-new m (omega (arith, y .levels)) (omega (arith, y .held)));
       }

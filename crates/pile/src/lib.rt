@@ -6,7 +6,7 @@ ghost use Prim.Native.Nat.{_≤_, _<_};
 ghost use lib.ListN.{set};
 ghost use Rattle.json.specs.Verdict.{maxBytes, maxDepth};
 ghost use Rattle.pile.specs.Pile.{pile};
-ghost use Rattle.pile.specs.Moves.{Pops, Lost, PassedTo, EnteredAt, Skipped};
+ghost use Rattle.pile.specs.Moves.{Pops, CountsOn, Lost, PassedTo, EnteredAt, Skipped};
 
 // Where the walk stands: the place; whether an item is ahead there, or else a value has been passed; how many containers are open; the
 // frames on the pile and the marks of the innermost container; the pairs used, the most frames, and one more than the first byte of the
@@ -77,6 +77,33 @@ pub fn pop_frame(
     }
 }
 
+// Keeps, at the depth of a container, the pair that waits for its end and its bracket; the first of its items is at position 0.
+fn push_level(
+    waits: &mut [usize; MAX_DEPTH],
+    brackets: &mut [u8; MAX_DEPTH],
+    counts: &mut [u32; MAX_DEPTH],
+    depth: usize,
+    wait: usize,
+    bracket: u8,
+)
+    requires { ⌜ depth < maxDepth ⌝ }
+    ensures { λ _. ⌜ now (waits .exit) ≡ set (now (waits .entry)) depth wait ⌝ }
+    ensures { λ _. ⌜ now (brackets .exit) ≡ set (now (brackets .entry)) depth bracket ⌝ }
+    ensures { λ _. ⌜ now (counts .exit) ≡ set (now (counts .entry)) depth 0 ⌝ }
+{
+    waits[depth] = wait;
+    brackets[depth] = bracket;
+    counts[depth] = 0;
+}
+
+// Counts one item more of the container at a depth.
+pub fn count_item(counts: &mut [u32; MAX_DEPTH], depth: usize)
+    requires { ⌜ depth < maxDepth ⌝ }
+    ensures { λ _. ⌜ CountsOn (now (counts .entry)) depth (now (counts .exit)) ⌝ }
+{
+    counts[depth] = std::num::wrapping_add_u32(counts[depth], 1);
+}
+
 fn wide(x: u16) -> usize
     ensures { λ r. ⌜ r ≡ x ⌝ }
 {
@@ -143,17 +170,17 @@ pub fn enter(
     held: &mut [u16; MAX_DEPTH],
     waits: &mut [usize; MAX_DEPTH],
     brackets: &mut [u8; MAX_DEPTH],
+    counts: &mut [u32; MAX_DEPTH],
 ) -> Standing
     requires { ⌜ (a .frames < maxDepth) × (a .depth < maxDepth) ⌝ }
     ensures { λ r. ⌜ EnteredAt
-        (pile (now (levels .entry)) (now (held .entry)) (now (waits .entry)) (now (brackets .entry)))
-        (pile (now (levels .exit)) (now (held .exit)) (now (waits .exit)) (now (brackets .exit)))
+        (pile (now (levels .entry)) (now (held .entry)) (now (waits .entry)) (now (brackets .entry)) (now (counts .entry)))
+        (pile (now (levels .exit)) (now (held .exit)) (now (waits .exit)) (now (brackets .exit)) (now (counts .exit)))
         bracket first wait frames v a r ⌝ }
 {
     let depth = a.depth;
     push_frame(levels, held, a.frames, depth, a.marks);
-    waits[depth] = wait;
-    brackets[depth] = bracket;
+    push_level(waits, brackets, counts, depth, wait, bracket);
     let inner = depth + 1;
     Standing {
         at: first,

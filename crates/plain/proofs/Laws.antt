@@ -14,7 +14,7 @@ use Rattle.json.specs.Grammar.{Kind, putKey, putValue, putMore, text}
 use Rattle.json.specs.Verdict.{maxDepth}
 use Rattle.query_parser.specs.Holds.{Holds}
 use Rattle.query.specs.Steps.{Step}
-use Rattle.query_parser.specs.declared.compiled.Compiled.{Compiled}
+use Rattle.query_parser.specs.declared.compiled.Kinds.{Kinds}
 use Rattle.select.specs.Nodes.{Label, size, root, labelOf}
 use Rattle.select.specs.Visits.{visits, nodeVisits}
 use Rattle.select.specs.Ways.{frameIf}
@@ -26,7 +26,7 @@ use Rattle.automaton.specs.Start.{start-none, start-some}
 use Rattle.automaton.specs.State.{State, next, start}
 use Rattle.automaton.specs.Tally.{Tally, raised, tallied, fresh}
 use Rattle.automaton.specs.Halves.{endPair, finish, waiting, begin}
-use Rattle.marks.specs.Advances.{Advances}
+use Rattle.marks.specs.Advances.{labelBy, Advances}
 use Rattle.pairs.specs.Pairs.{tally, Begins, Raises}
 use Rattle.walk.specs.Ahead.{valueAt, ItemAhead, MoreAhead, ItemsAhead, ValueAhead}
 use Rattle.walk.specs.AheadLaws.{items-inside, no-items, first-item, item-value, value-here, value-inside as item-inside}
@@ -55,19 +55,18 @@ unfolding frameIf
 frame-more true k = omega arith
 frame-more false k = omega arith
 
-pub enters-child : {q : List ℕ} {c : Compiled} {s : List ℕ} {a : ℕ} {o : Bool} {st : State} {v x y m : ℕ} {p : Bool} {k : ℕ}
-    → EntersItem s a o v x y → Advances q c (st .marks) (slice x y s) o m p → k ≡ frameIf (eqb (st .marks) m) (st .frames)
-    → EntersChild q c s a o st v (state m p k)
+pub enters-child : {q : List ℕ} {kinds : Kinds} {ops s : List ℕ} {a : ℕ} {o : Bool} {j : ℕ} {st : State} {v x y m : ℕ} {p : Bool}
+    {k : ℕ} → EntersItem s a o v x y → Advances q kinds ops (st .marks) (labelBy o (slice x y s) j) m p → k ≡ frameIf (eqb (st .marks) m) (st .frames)
+    → EntersChild q kinds ops s a o j st v (state m p k)
 unfolding next
-enters-child {q} {c} {s} {a} {o} {st} {v} {x} {y} {m} {p} {k} item moved framed =
+enters-child {s = s} {o = o} {j = j} {st = st} {x = x} {y = y} {m = m} item moved framed =
     record {
       onward = item .onward;
       within = item .within;
       one-more = omega (arith, frame-more (eqb (st .marks) m) (st .frames));
-      exact = λ z h w key rest d f j.
+      exact = λ z h w key rest d f.
           let e = item .exact w key rest d f in
-          let l = label-is s o key j x y (e .1) in
-          (e .0, rw (framed, ← moved .marks-are z h (labelOf (kindIf o) key j) l, ← moved .picked-is z h (labelOf (kindIf o) key j) l));
+          (e .0, rw (framed, ← label-is s o key j x y (e .1), ← moved .marks-are z h, ← moved .picked-is z h));
     }
 
 -- a value that is ahead has a first byte
@@ -81,13 +80,13 @@ value-inside {s = s} {rest = rest} {a = a} v l = go (drop a s) refl
     go (b ∷ u) e = omega (arith, length-drop a s, ap length e)
 
 -- the place of an item's value, after blanks and its key
-item-value-is : (next′ : State → Label → State) (s rest : List ℕ) (k : Kind) (st : State) (n : ℕ) (goal : Tally) (end i : ℕ) (t : Tally)
-    (x : ItemAhead next′ s rest k st n goal end i t)
-    → valueAt k i (x .w) (x .key) ≡ item-value next′ s rest k st n goal end i t x
-item-value-is next′ s rest k st n goal end i t x =
+item-value-is : (next′ : State → Label → State) (s rest : List ℕ) (k : Kind) (st : State) (n : ℕ) (goal : Tally) (end i j : ℕ) (t : Tally)
+    (x : ItemAhead next′ s rest k st n goal end i j t)
+    → valueAt k i (x .w) (x .key) ≡ item-value next′ s rest k st n goal end i j t x
+item-value-is next′ s rest k st n goal end i j t x =
     let u : List ℕ = putValue (x .v) (putMore (x .m) rest) in
-    same-place s (item-value next′ s rest k st n goal end i t x) (valueAt k i (x .w) (x .key)) (item-inside next′ s rest k st n goal end i t x)
-    (value-here next′ s rest k st n goal end i t x
+    same-place s (item-value next′ s rest k st n goal end i j t x) (valueAt k i (x .w) (x .key)) (item-inside next′ s rest k st n goal end i j t x)
+    (value-here next′ s rest k st n goal end i j t x
     ∙ sym (past-key s (i + length (x .w)) k (x .key) u (past-blanks s i (x .w) (putKey k (x .key) u) (x .here))))
 
 -- the end goes into the pair that waits
@@ -95,12 +94,12 @@ ended : {w wait : ℕ} (e : ℕ) (l : List ℕ) {l′ : List ℕ} {u h p : ℕ} 
 unfolding finish
 ended e l {u = u} {h = h} {p = p} x y = ap (λ (z : List ℕ). tally z u h p) (y ∙ ap (λ (k : ℕ). endPair k e l) (sym x))
 
--- a query q compiled into c, a record s, and a value at a, with the state st and n levels that may be opened
-module _ {q : List ℕ} {c : Compiled} {s : List ℕ} {a n : ℕ} {st : State} where
-  pub value-past : {t : Tally} → a ≤ length s → length s ≤ a → WalksValue q c s a n st t t a
+-- a query q compiled into kinds and ops, a record s, and a value at a, with the state st and n levels that may be opened
+module _ {q : List ℕ} {kinds : Kinds} {ops s : List ℕ} {a n : ℕ} {st : State} where
+  pub value-past : {t : Tally} → a ≤ length s → length s ≤ a → WalksValue q kinds ops s a n st t t a
   value-past h l = record { onward = omega arith; within = h; exact = λ x f rest goal end v. absurd (value-inside v l) }
 
-  pub value-too-deep : {t t′ : Tally} → a ≤ length s → classOf (getD s a 0) ≡ 1 → n ≡ 0 → WalksValue q c s a n st t t′ a
+  pub value-too-deep : {t t′ : Tally} → a ≤ length s → classOf (getD s a 0) ≡ 1 → n ≡ 0 → WalksValue q kinds ops s a n st t t′ a
   value-too-deep {t} h f z =
       record {
         onward = omega arith;
@@ -110,7 +109,7 @@ module _ {q : List ℕ} {c : Compiled} {s : List ℕ} {a n : ℕ} {st : State} w
 
   module _ {list list′ : List ℕ} {used used′ peak stop stop′ wait : ℕ} (begun : Begins (st .picked) list used stop a list′ used′ stop′ wait) where
     pub value-scalar : {last : List ℕ} {e : ℕ} → (classOf (getD s a 0) ≡ 1 → ⊥) → EndsScalar s a e → last ≡ endPair wait e list′
-        → WalksValue q c s a n st (tally list used peak stop) (tally last used′ peak stop′) e
+        → WalksValue q kinds ops s a n st (tally list used peak stop) (tally last used′ peak stop′) e
     value-scalar {e = e} f h d =
         let t : Tally = tally list used peak stop in
         record {
@@ -123,9 +122,9 @@ module _ {q : List ℕ} {c : Compiled} {s : List ℕ} {a n : ℕ} {st : State} w
 
     pub value-container : {peak′ used″ peak″ stop″ : ℕ} {list″ last : List ℕ} {e : ℕ} → classOf (getD s a 0) ≡ 1
         → Raises peak (st .frames) stop′ peak′
-        → WalksItems q c s (a + 1) (n - 1) (eqb (getD s a 0) 0x7B) st (tally list′ used′ peak′ stop′) (tally list″ used″ peak″ stop″) e
+        → WalksItems q kinds ops s (a + 1) (n - 1) (eqb (getD s a 0) 0x7B) st (tally list′ used′ peak′ stop′) (tally list″ used″ peak″ stop″) e
         → last ≡ endPair wait e list″
-        → WalksValue q c s a n st (tally list used peak stop) (tally last used″ peak″ stop″) e
+        → WalksValue q kinds ops s a n st (tally list used peak stop) (tally last used″ peak″ stop″) e
     value-container {peak′ = peak′} {list″ = list″} {e = e} f r h d =
         let t : Tally = tally list used peak stop in
         record {
@@ -140,24 +139,26 @@ module _ {q : List ℕ} {c : Compiled} {s : List ℕ} {a n : ℕ} {st : State} w
               (ended e list″ (begun .waits peak) d ∙ finished ∙ y .closes, i .1);
         }
 
--- a query q compiled into c, a record s, and the items of a container from a on, with its state st and n levels that may be opened
-module _ (q : List ℕ) (c : Compiled) (s : List ℕ) (a n : ℕ) (o : Bool) (st : State) (t : Tally) where
-  -- what was ahead at a with the tally t is ahead at i with the tally u: an item
-  pub record AtItem (i : ℕ) (u : Tally) : Type 0 where
+-- a query q compiled into kinds and ops, a record s, and the items of a container from a on, with its state st and n levels that may be opened
+module _ (q : List ℕ) (kinds : Kinds) (ops s : List ℕ) (a n : ℕ) (o : Bool) (st : State) (t : Tally) where
+  -- what was ahead at a with the tally t is ahead at i with the tally u: the item at position j
+  pub record AtItem (i j : ℕ) (u : Tally) : Type 0 where
     pub onward : a ≤ i
     pub within : i ≤ length s
-    pub exact : (x : List Step) → Holds q x c → (rest : List ℕ) (goal : Tally) (end : ℕ) → ItemsAhead (next x) s rest (kindIf o) st n goal end a t
-        → ItemAhead (next x) s rest (kindIf o) st n goal end i u
+    pub behind : j ≤ i
+    pub exact : (x : List Step) → Holds q x kinds ops → (rest : List ℕ) (goal : Tally) (end : ℕ) → ItemsAhead (next x) s rest (kindIf o) st n goal end a t
+        → ItemAhead (next x) s rest (kindIf o) st n goal end i j u
 
-  -- an item has been passed
-  pub record AtMore (i : ℕ) (u : Tally) : Type 0 where
+  -- an item has been passed; the next one's position is j
+  pub record AtMore (i j : ℕ) (u : Tally) : Type 0 where
     pub onward : a ≤ i
     pub within : i ≤ length s
-    pub exact : (x : List Step) → Holds q x c → (rest : List ℕ) (goal : Tally) (end : ℕ) → ItemsAhead (next x) s rest (kindIf o) st n goal end a t
-        → MoreAhead (next x) s rest (kindIf o) st n goal end i u
+    pub behind : j ≤ i + 1
+    pub exact : (x : List Step) → Holds q x kinds ops → (rest : List ℕ) (goal : Tally) (end : ℕ) → ItemsAhead (next x) s rest (kindIf o) st n goal end a t
+        → MoreAhead (next x) s rest (kindIf o) st n goal end i j u
 
-module _ {q : List ℕ} {c : Compiled} {s : List ℕ} {a n : ℕ} {o : Bool} {st : State} {t : Tally} where
-  pub items-cut : {i : ℕ} → EndsBlanks s a i → length s ≤ i → WalksItems q c s a n o st t t i
+module _ {q : List ℕ} {kinds : Kinds} {ops s : List ℕ} {a n : ℕ} {o : Bool} {st : State} {t : Tally} where
+  pub items-cut : {i : ℕ} → EndsBlanks s a i → length s ≤ i → WalksItems q kinds ops s a n o st t t i
   items-cut {i} b l =
       record {
         onward = b .onward;
@@ -165,7 +166,7 @@ module _ {q : List ℕ} {c : Compiled} {s : List ℕ} {a n : ℕ} {o : Bool} {st
         exact = λ x f rest goal end v. absurd (omega (arith, items-inside (next x) s rest (kindIf o) st n goal end a i t v b));
       }
 
-  pub items-none : {i : ℕ} → EndsBlanks s a i → i < length s → classOf (getD s i 0) ≡ 2 → WalksItems q c s a n o st t t (i + 1)
+  pub items-none : {i : ℕ} → EndsBlanks s a i → i < length s → classOf (getD s i 0) ≡ 2 → WalksItems q kinds ops s a n o st t t (i + 1)
   items-none {i} b l e =
       record {
         onward = omega (arith, b .onward);
@@ -173,73 +174,76 @@ module _ {q : List ℕ} {c : Compiled} {s : List ℕ} {a n : ℕ} {o : Bool} {st
         exact = λ x f rest goal end v. let y = no-items (next x) s rest (kindIf o) st n goal end a i t v b e in (y .0, sym (y .1));
       }
 
-  pub items-begin : {i : ℕ} → EndsBlanks s a i → (classOf (getD s i 0) ≡ 2 → ⊥) → AtItem q c s a n o st t i t
+  pub items-begin : {i : ℕ} → EndsBlanks s a i → (classOf (getD s i 0) ≡ 2 → ⊥) → AtItem q kinds ops s a n o st t i 0 t
   items-begin {i} b f =
       record {
         onward = b .onward;
         within = b .within;
+        behind = omega arith;
         exact = λ x h rest goal end v. first-item (next x) s rest (kindIf o) st n goal end a i t v b f;
       }
 
   -- an item's value is entered and walked
-  pub item-walked : {i v e : ℕ} {st′ : State} {u u′ : Tally} → AtItem q c s a n o st t i u → EntersChild q c s i o st v st′
-      → WalksValue q c s v n st′ u u′ e → AtMore q c s a n o st t e u′
-  item-walked {i} {v} {e} {st′} {u} {u′} p h w =
+  pub item-walked : {i j v e : ℕ} {st′ : State} {u u′ : Tally} → AtItem q kinds ops s a n o st t i j u → EntersChild q kinds ops s i o j st v st′
+      → WalksValue q kinds ops s v n st′ u u′ e → AtMore q kinds ops s a n o st t e (j + 1) u′
+  item-walked {i} {j} {v} {e} {st′} {u} {u′} p h w =
       record {
         onward = omega (arith, p .onward, h .onward, w .onward);
         within = w .within;
+        behind = omega (arith, p .behind, h .onward, w .onward);
         exact = λ x f rest goal end z.
             let y = p .exact x f rest goal end z in
             let k = kindIf o in
             let r = putMore (y .m) rest in
-            let b = h .exact x f (y .w) (y .key) (putValue (y .v) r) (y .here) (key-solid (next x) s rest k st n goal end i u y) (y .j) in
-            let at = item-value (next x) s rest k st n goal end i u y in
-            let here : v ≡ at = b .0 ∙ item-value-is (next x) s rest k st n goal end i u y in
-            let sum : Tally = tallied u (visits (next x) (y .v) (next x st (labelOf k (y .key) (y .j))) at) in
+            let b = h .exact x f (y .w) (y .key) (putValue (y .v) r) (y .here) (key-solid (next x) s rest k st n goal end i j u y) in
+            let at = item-value (next x) s rest k st n goal end i j u y in
+            let here : v ≡ at = b .0 ∙ item-value-is (next x) s rest k st n goal end i j u y in
+            let sum : Tally = tallied u (visits (next x) (y .v) (next x st (labelOf k (y .key) j)) at) in
             let g = w .exact x f r sum (at + size (y .v))
             (record {
               v = y .v;
-              here = ap (λ (d : ℕ). drop d s) here ∙ value-here (next x) s rest k st n goal end i u y;
-              stops = value-stopped (next x) s rest k st n goal end i u y;
+              here = ap (λ (d : ℕ). drop d s) here ∙ value-here (next x) s rest k st n goal end i j u y;
+              stops = value-stopped (next x) s rest k st n goal end i j u y;
               shallow = y .shallow;
               runs = ap₂ (λ (d : State) (l : ℕ). tallied u (visits (next x) (y .v) d l)) (b .1) here;
               ends = ap (λ (d : ℕ). d + size (y .v)) (sym here);
             })
             in
-            item-passed (next x) s rest k st n goal end i u y e u′ (g .1) (sym (g .0));
+            item-passed (next x) s rest k st n goal end i j u y e u′ (g .1) (sym (g .0));
       }
 
-  pub more-cut : {i j : ℕ} {u : Tally} → AtMore q c s a n o st t i u → EndsBlanks s i j → length s ≤ j → WalksItems q c s a n o st t u j
-  more-cut {i} {j} {u} p b l =
+  pub more-cut : {i j e : ℕ} {u : Tally} → AtMore q kinds ops s a n o st t i j u → EndsBlanks s i e → length s ≤ e → WalksItems q kinds ops s a n o st t u e
+  more-cut {i} {j} {e} {u} p b l =
       record {
         onward = omega (arith, p .onward, b .onward);
         within = b .within;
         exact = λ x f rest goal end v.
-            absurd (omega (arith, more-inside (next x) s rest (kindIf o) st n goal end i j u (p .exact x f rest goal end v) b));
+            absurd (omega (arith, more-inside (next x) s rest (kindIf o) st n goal end i j e u (p .exact x f rest goal end v) b));
       }
 
-  pub more-none : {i j : ℕ} {u : Tally} → AtMore q c s a n o st t i u → EndsBlanks s i j → j < length s → (getD s j 0 ≡ 0x2C → ⊥)
-      → WalksItems q c s a n o st t u (j + 1)
-  more-none {i} {j} {u} p b l e =
+  pub more-none : {i j e : ℕ} {u : Tally} → AtMore q kinds ops s a n o st t i j u → EndsBlanks s i e → e < length s → (getD s e 0 ≡ 0x2C → ⊥)
+      → WalksItems q kinds ops s a n o st t u (e + 1)
+  more-none {i} {j} {e} {u} p b l f =
       record {
         onward = omega (arith, p .onward, b .onward);
         within = omega arith;
-        exact = λ x f rest goal end v.
-            let y = no-more (next x) s rest (kindIf o) st n goal end i j u (p .exact x f rest goal end v) b e in (y .0, sym (y .1));
+        exact = λ x h rest goal end v.
+            let y = no-more (next x) s rest (kindIf o) st n goal end i j e u (p .exact x h rest goal end v) b f in (y .0, sym (y .1));
       }
 
-  pub more-again : {i j : ℕ} {u : Tally} → AtMore q c s a n o st t i u → EndsBlanks s i j → j < length s → getD s j 0 ≡ 0x2C
-      → AtItem q c s a n o st t (j + 1) u
-  more-again {i} {j} {u} p b l e =
+  pub more-again : {i j e : ℕ} {u : Tally} → AtMore q kinds ops s a n o st t i j u → EndsBlanks s i e → e < length s → getD s e 0 ≡ 0x2C
+      → AtItem q kinds ops s a n o st t (e + 1) j u
+  more-again {i} {j} {e} {u} p b l f =
       record {
         onward = omega (arith, p .onward, b .onward);
         within = omega arith;
-        exact = λ x f rest goal end v. next-item (next x) s rest (kindIf o) st n goal end i j u (p .exact x f rest goal end v) b e;
+        behind = omega (arith, p .behind, b .onward);
+        exact = λ x h rest goal end v. next-item (next x) s rest (kindIf o) st n goal end i j e u (p .exact x h rest goal end v) b f;
       }
 
 -- the root stands after the blanks before it, with the state that a walk starts with
-pub walks-root : {q : List ℕ} {c : Compiled} {s list after : List ℕ} {a e used peak stop : ℕ} {st : State} → EndsBlanks s 0 a → RootState (c .count) st
-    → WalksValue q c s a maxDepth st (tally list 0 0 0) (tally after used peak stop) e → Walks q c s list after used peak stop
+pub walks-root : {q : List ℕ} {kinds : Kinds} {ops s list after : List ℕ} {a e used peak stop : ℕ} {st : State} → EndsBlanks s 0 a → RootState (kinds .count) st
+    → WalksValue q kinds ops s a maxDepth st (tally list 0 0 0) (tally after used peak stop) e → Walks q kinds ops s list after used peak stop
 unfolding text root nodeVisits fresh
 walks-root {s = s} {list = list} {a = a} b r w =
     record {

@@ -4,11 +4,12 @@ use encoding::OPENING;
 use json::MAX_DEPTH;
 use pairs::Counts;
 use query_parser::Compiled;
+use query_parser::Kinds;
 ghost use Prim.Native.Nat.{_+_, _≤_, _<_};
 ghost use lib.ListN.{length};
 ghost use Rattle.encoding.specs.ClassTable.{ClassTable};
 ghost use Rattle.json.specs.Verdict.{maxBytes, maxDepth};
-ghost use Rattle.marks.specs.Advances.{Fits, Bounds};
+ghost use Rattle.query_parser.specs.Holds.{Fits};
 ghost use Rattle.walk.specs.Walks.{Walks};
 ghost use Rattle.plain.specs.Plain.{stateOf, tallyOf, RootState, EntersChild, WalksValue, WalksItems};
 
@@ -54,33 +55,34 @@ fn root_state(count: usize) -> State
     }
 }
 
-// Enters the item at `at` of a container with the state `around`: the place of the item's value, and the value's state.
+// Enters the item at `at` of a container with the state `around`, of which it is item number `index`, from 0: the place of the item's value,
+// and the value's state.
 fn enter_child(
     query: &[u8],
-    steps: Compiled,
-    starts: &[u16; 16],
-    ends: &[u16; 16],
+    kinds: Kinds,
+    operands: &[u64; 16],
     record: &[u8],
     at: usize,
     object: bool,
+    index: usize,
     around: State,
 ) -> Child
-    requires { ⌜ Fits (now query) steps × Bounds steps (now starts) (now ends) ⌝ }
+    requires { ⌜ Fits (now query) kinds (now operands) ⌝ }
     requires { ⌜ (at ≤ length (now «record»)) × (around .frames < maxDepth) ⌝ }
-    ensures { λ r. ⌜ EntersChild (now (query .entry)) steps (now («record» .entry)) at object (stateOf around) (r .at) (stateOf (r .state)) ⌝ }
+    ensures { λ r. ⌜ EntersChild (now (query .entry)) kinds (now (operands .entry)) (now («record» .entry)) at object index (stateOf around) (r .at) (stateOf (r .state)) ⌝ }
 {
     let item = scan::enter_item(record, at, object);
     let above = around.marks;
     let next = marks::advance(
         query,
-        steps,
-        starts,
-        ends,
+        kinds,
+        operands,
         above,
         record,
         item.from,
         item.to,
         object,
+        index,
     );
     let frames = marks::framed(above, next.marks, around.frames);
     Child {
@@ -98,7 +100,8 @@ fn enter_child(
 fn walk_value(
     classes: &[u8; 256],
     query: &[u8],
-    steps: Compiled,
+    kinds: Kinds,
+    operands: &[u64; 16],
     record: &[u8],
     at: usize,
     left: usize,
@@ -107,9 +110,9 @@ fn walk_value(
     counts: Counts,
 ) -> Walked
     requires { ⌜ ClassTable (now classes) ⌝ }
-    requires { ⌜ Fits (now query) steps ⌝ }
+    requires { ⌜ Fits (now query) kinds (now operands) ⌝ }
     requires { ⌜ (length (now «record») ≤ maxBytes) × (at ≤ length (now «record»)) × (node .frames + left ≤ maxDepth) ⌝ }
-    ensures { λ r. ⌜ WalksValue (now (query .entry)) steps (now («record» .entry)) at left (stateOf node) (tallyOf (now (list .entry)) counts) (tallyOf (now (list .exit)) (r .counts)) (r .end) ⌝ }
+    ensures { λ r. ⌜ WalksValue (now (query .entry)) kinds (now (operands .entry)) (now («record» .entry)) at left (stateOf node) (tallyOf (now (list .entry)) counts) (tallyOf (now (list .exit)) (r .counts)) (r .end) ⌝ }
 {
     if at >= record.len() {
         return Walked { end: at, counts };
@@ -137,7 +140,8 @@ fn walk_value(
     let walked = walk_items(
         classes,
         query,
-        steps,
+        kinds,
+        operands,
         record,
         at + 1,
         left - 1,
@@ -155,7 +159,8 @@ fn walk_value(
 fn walk_items(
     classes: &[u8; 256],
     query: &[u8],
-    steps: Compiled,
+    kinds: Kinds,
+    operands: &[u64; 16],
     record: &[u8],
     at: usize,
     left: usize,
@@ -165,9 +170,9 @@ fn walk_items(
     counts: Counts,
 ) -> Walked
     requires { ⌜ ClassTable (now classes) ⌝ }
-    requires { ⌜ Fits (now query) steps ⌝ }
+    requires { ⌜ Fits (now query) kinds (now operands) ⌝ }
     requires { ⌜ (length (now «record») ≤ maxBytes) × (at ≤ length (now «record»)) × (node .frames + left < maxDepth) ⌝ }
-    ensures { λ r. ⌜ WalksItems (now (query .entry)) steps (now («record» .entry)) at left object (stateOf node) (tallyOf (now (list .entry)) counts) (tallyOf (now (list .exit)) (r .counts)) (r .end) ⌝ }
+    ensures { λ r. ⌜ WalksItems (now (query .entry)) kinds (now (operands .entry)) (now («record» .entry)) at left object (stateOf node) (tallyOf (now (list .entry)) counts) (tallyOf (now (list .exit)) (r .counts)) (r .end) ⌝ }
 {
     let first = scan::skip_blanks(record, at);
     if first >= record.len() {
@@ -177,17 +182,17 @@ fn walk_items(
         let end = first + 1;
         return Walked { end, counts };
     }
-    let starts = steps.starts;
-    let ends = steps.ends;
     let mut i = first;
+    let mut index: usize = 0;
     let mut sum = counts;
     loop {
-        let child = enter_child(query, steps, &starts, &ends, record, i, object, node);
+        let child = enter_child(query, kinds, operands, record, i, object, index, node);
         let below = child.state;
         let walked = walk_value(
             classes,
             query,
-            steps,
+            kinds,
+            operands,
             record,
             child.at,
             left,
@@ -206,19 +211,22 @@ fn walk_items(
             return Walked { end, counts: sum };
         }
         i = end;
+        index += 1;
     }
 }
 
 // Lists the nodes of a checked record that a query picks out, and counts frames, by the plain walk: what the list holds and the counts
 // are the tally of all nodes. Where the list has too few pairs it holds the first nodes, and the walk says where the first one left over is.
 pub fn walk_plain(query: &[u8], steps: Compiled, record: &[u8], list: &mut [u32]) -> Counts
-    requires { ⌜ Fits (now query) steps ⌝ }
+    requires { ⌜ Fits (now query) (steps .kinds) (steps .operands) ⌝ }
     requires { ⌜ length (now «record») ≤ maxBytes ⌝ }
-    ensures { λ r. ⌜ Walks (now (query .entry)) steps (now («record» .entry)) (now (list .entry)) (now (list .exit)) (r .used) (r .peak) (r .stop) ⌝ }
+    ensures { λ r. ⌜ Walks (now (query .entry)) (steps .kinds) (steps .operands) (now («record» .entry)) (now (list .entry)) (now (list .exit)) (r .used) (r .peak) (r .stop) ⌝ }
 {
     let classes = encoding::classes();
+    let kinds = steps.kinds;
+    let operands = steps.operands;
     let at = scan::skip_blanks(record, 0);
-    let node = root_state(steps.count);
+    let node = root_state(kinds.count);
     let none = Counts {
         used: 0,
         peak: 0,
@@ -227,7 +235,8 @@ pub fn walk_plain(query: &[u8], steps: Compiled, record: &[u8], list: &mut [u32]
     let walked = walk_value(
         &classes,
         query,
-        steps,
+        kinds,
+        &operands,
         record,
         at,
         MAX_DEPTH,

@@ -19,13 +19,13 @@ valueAt k i w key = i + length w + keySize k key
 -- in a container with the state st, from which child states follow by next, of which n levels more may be opened;
 -- after it stands rest, the tally will be goal and the place after the container end
 module _ (next : State → Label → State) (s rest : List ℕ) (k : Kind) (st : State) (n : ℕ) (goal : Tally) (end : ℕ) where
-  -- at place i, with the tally t, an item is ahead
-  pub record ItemAhead (i : ℕ) (t : Tally) : Type 0 where
+  -- at place i, with the tally t, the item at position j is ahead; before each item but the first there is a comma, so j is at most i
+  pub record ItemAhead (i j : ℕ) (t : Tally) : Type 0 where
     pub w : Blanks
     pub key : Key k
     pub v : Value
     pub m : More k
-    pub j : ℕ
+    pub behind : j ≤ i
     pub here : drop i s ≡ putBlanks w (putKey k key (putValue v (putMore m rest)))
     pub shallow : nesting v ≤ n
     pub shallow-more : moreNesting m ≤ n
@@ -35,10 +35,10 @@ module _ (next : State → Label → State) (s rest : List ℕ) (k : Kind) (st :
         ≡ goal
     pub ends : end ≡ valueAt k i w key + size v + length (putMore m [])
 
-  -- an item has been passed
-  pub record MoreAhead (i : ℕ) (t : Tally) : Type 0 where
+  -- an item has been passed; the next one's position is j
+  pub record MoreAhead (i j : ℕ) (t : Tally) : Type 0 where
     pub m : More k
-    pub j : ℕ
+    pub behind : j ≤ i + 1
     pub here : drop i s ≡ putMore m rest
     pub shallow : moreNesting m ≤ n
     pub runs : tallied t (moreVisits next m st j i) ≡ goal

@@ -82,13 +82,14 @@ module _ (next : State → Label → State) (s rest : List ℕ) (k : Kind) (st :
   abbrev ItemsAt : ℕ → Tally → Type 0
   ItemsAt i t = ItemsAhead next s rest k st n goal end i t
 
-  abbrev ItemAt : ℕ → Tally → Type 0
-  ItemAt i t = ItemAhead next s rest k st n goal end i t
+  abbrev ItemAt : ℕ → ℕ → Tally → Type 0
+  ItemAt i j t = ItemAhead next s rest k st n goal end i j t
 
-  abbrev MoreAt : ℕ → Tally → Type 0
-  MoreAt i t = MoreAhead next s rest k st n goal end i t
+  abbrev MoreAt : ℕ → ℕ → Tally → Type 0
+  MoreAt i j t = MoreAhead next s rest k st n goal end i j t
 
-  -- after the opening bracket and blanks something stands: the closing bracket where there are no items, and else an item is ahead
+  -- after the opening bracket and blanks something stands: the closing bracket where there are no items, and else the item at position 0 is
+  -- ahead
   module _ (i c : ℕ) (t : Tally) (x : ItemsAt i t) (blanks : EndsBlanks s i c) where
     pub items-inside : c < length s
     unfolding putItems
@@ -107,12 +108,12 @@ module _ (next : State → Label → State) (s rest : List ℕ) (k : Kind) (st :
         go (G.empty w) e r q = (r, omega (arith, at-closing s rest k i c blanks w e .0, length-blanks w (closing k ∷ [])))
         go (G.items w key v m) e r q = absurd (at-item s rest k i c blanks w key v (putMore m rest) e .opens f)
 
-    pub first-item : (classOf (getD s c 0) ≡ 2 → ⊥) → ItemAt c t
+    pub first-item : (classOf (getD s c 0) ≡ 2 → ⊥) → ItemAt c 0 t
     unfolding putItems putBlanks itemsVisits itemsNesting
     first-item f = go (x .is) (x .here) (x .shallow) (x .runs) (x .ends)
       where
         go : (is : Items k) → drop i s ≡ putItems is rest → itemsNesting is ≤ n → tallied t (itemsVisits next is st i) ≡ goal
-            → end ≡ i + length (putItems is []) → ItemAt c t
+            → end ≡ i + length (putItems is []) → ItemAt c 0 t
         go (G.empty w) e l r q = absurd (f (ap classOf (at-closing s rest k i c blanks w e .1 .byte-is) ∙ closing-class k))
         go (G.items w key v m) e l r q =
             let here = at-item s rest k i c blanks w key v (putMore m rest) e in
@@ -122,7 +123,7 @@ module _ (next : State → Label → State) (s rest : List ℕ) (k : Kind) (st :
               key = key;
               v = v;
               m = m;
-              j = 0;
+              behind = omega arith;
               here = here .item;
               shallow = le-trans (le-max-left (nesting v) (moreNesting m)) l;
               shallow-more = le-trans (le-max-right (nesting v) (moreNesting m)) l;
@@ -132,7 +133,7 @@ module _ (next : State → Label → State) (s rest : List ℕ) (k : Kind) (st :
             }
 
   -- an item's value stands where the item's key ends, and what follows it ends a word
-  module _ (i : ℕ) (t : Tally) (x : ItemAt i t) where
+  module _ (i j : ℕ) (t : Tally) (x : ItemAt i j t) where
     pub item-value : ℕ
     item-value = valueAt k i (x .w) (x .key)
 
@@ -152,26 +153,26 @@ module _ (next : State → Label → State) (s rest : List ℕ) (k : Kind) (st :
     key-solid = solid-value (x .v) (putMore (x .m) rest)
 
     abbrev value-visits : List (Visit State)
-    value-visits = visits next (x .v) (next st (labelOf k (x .key) (x .j))) item-value
+    value-visits = visits next (x .v) (next st (labelOf k (x .key) j)) item-value
 
-    -- past the value, with the tally of its visits
-    pub item-passed : (e : ℕ) (u : Tally) → e ≡ item-value + size (x .v) → tallied t value-visits ≡ u → MoreAt e u
+    -- past the value, with the tally of its visits, the next position is one more
+    pub item-passed : (e : ℕ) (u : Tally) → e ≡ item-value + size (x .v) → tallied t value-visits ≡ u → MoreAt e (j + 1) u
     unfolding item-value
     item-passed e u h f =
         record {
           m = x .m;
-          j = x .j + 1;
+          behind = omega (arith, x .behind);
           here = ap (λ (a : ℕ). drop a s) h ∙ past-value s item-value (x .v) (putMore (x .m) rest) value-here;
           shallow = x .shallow-more;
           runs =
-              ap₂ (λ (y : Tally) (a : ℕ). tallied y (moreVisits next (x .m) st (x .j + 1) a)) (sym f) h
-              ∙ sym (tallied-append t value-visits (moreVisits next (x .m) st (x .j + 1) (item-value + size (x .v))))
+              ap₂ (λ (y : Tally) (a : ℕ). tallied y (moreVisits next (x .m) st (j + 1) a)) (sym f) h
+              ∙ sym (tallied-append t value-visits (moreVisits next (x .m) st (j + 1) (item-value + size (x .v))))
               ∙ x .runs;
           ends = omega (arith, x .ends);
         }
 
   -- after an item and blanks: a comma and an item, or the closing bracket
-  module _ (i c : ℕ) (t : Tally) (x : MoreAt i t) (blanks : EndsBlanks s i c) where
+  module _ (i j c : ℕ) (t : Tally) (x : MoreAt i j t) (blanks : EndsBlanks s i c) where
     pub more-inside : c < length s
     unfolding putMore
     more-inside = go (x .m) (x .here)
@@ -184,18 +185,18 @@ module _ (next : State → Label → State) (s rest : List ℕ) (k : Kind) (st :
     unfolding putMore moreVisits tallied
     no-more f = go (x .m) (x .here) (x .runs) (x .ends)
       where
-        go : (m : More k) → drop i s ≡ putMore m rest → tallied t (moreVisits next m st (x .j) i) ≡ goal
+        go : (m : More k) → drop i s ≡ putMore m rest → tallied t (moreVisits next m st j i) ≡ goal
             → end ≡ i + length (putMore m []) → (t ≡ goal) × (end ≡ c + 1)
         go (G.end w) e r q = (r, omega (arith, at-closing s rest k i c blanks w e .0, length-blanks w (closing k ∷ [])))
         go (G.more w w′ key v m) e r q =
             absurd (f (at-comma s rest k i c blanks w (putBlanks w′ (putKey k key (putValue v (putMore m rest)))) e .1 .byte-is))
 
-    pub next-item : getD s c 0 ≡ 0x2C → ItemAt (c + 1) t
+    pub next-item : getD s c 0 ≡ 0x2C → ItemAt (c + 1) j t
     unfolding putMore moreVisits moreNesting
     next-item f = go (x .m) (x .here) (x .shallow) (x .runs) (x .ends)
       where
-        go : (m : More k) → drop i s ≡ putMore m rest → moreNesting m ≤ n → tallied t (moreVisits next m st (x .j) i) ≡ goal
-            → end ≡ i + length (putMore m []) → ItemAt (c + 1) t
+        go : (m : More k) → drop i s ≡ putMore m rest → moreNesting m ≤ n → tallied t (moreVisits next m st j i) ≡ goal
+            → end ≡ i + length (putMore m []) → ItemAt (c + 1) j t
         go (G.end w) e l r q = absurd (closing-comma k (sym (at-closing s rest k i c blanks w e .1 .byte-is) ∙ f))
         go (G.more w w′ key v m) e l r q =
             let y = at-comma s rest k i c blanks w (putBlanks w′ (putKey k key (putValue v (putMore m rest)))) e in
@@ -205,12 +206,12 @@ module _ (next : State → Label → State) (s rest : List ℕ) (k : Kind) (st :
               key = key;
               v = v;
               m = m;
-              j = x .j;
+              behind = omega (arith, x .behind, blanks .onward);
               here = ap (λ (a : ℕ). drop a s) (add-one c) ∙ y .1 .rest-is;
               shallow = le-trans (le-max-left (nesting v) (moreNesting m)) l;
               shallow-more = le-trans (le-max-right (nesting v) (moreNesting m)) l;
               runs =
-                  ap (λ (a : ℕ). tallied t (visits next v (next st (labelOf k key (x .j))) a ++ moreVisits next m st (x .j + 1) (a + size v)))
+                  ap (λ (a : ℕ). tallied t (visits next v (next st (labelOf k key j)) a ++ moreVisits next m st (j + 1) (a + size v)))
                   (sym b)
                   ∙ r;
               ends =

@@ -141,12 +141,12 @@ shared-slice-read-bracket c = search needs
 
 enter-requires : tie.Need-enter-requires
 enter-requires c κs =
-    let at-if2 = c .before .before .before .before .before .before .before .before .before .before .before .before .before .before in
+    let at-if2 = c .before .before .before .before .before .before .before .before .before .before .before .before .before .before .before in
     (at-if2 .if2 .left, at-if2 .before .if1 .left)
 
 returns-6 : tie.Need-returns-6
 returns-6 c =
-    let at-if5 = c .before .before .before .before .before .before in
+    let at-if5 = c .before .before .before .before .before .before .before in
     let at-class = at-if5 .before in
     let at-if4 = at-class .before .before in
     let at-skip-blanks = at-if4 .before in

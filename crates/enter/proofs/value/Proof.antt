@@ -62,7 +62,7 @@ returns-2 c =
 
 container-requires : tie.Need-container-requires
 container-requires c κs =
-    let at-if1 = c .before .before .before .before .before .before .before .before .before .before .before .before .before in
+    let at-if1 = c .before .before .before .before .before .before .before .before .before .before .before .before .before .before in
     let pre = at-if1 .before .before .before .pre in
     (pre .0, ((pre .1 .0 .0, at-if1 .if1 .left), pre .1 .1))
 
@@ -72,7 +72,7 @@ same-length-2 c = search needs
 returns-3 : tie.Need-returns-3
 returns-3 c =
     let at-container = c .before .before in
-    let at-if2 = at-container .before .before .before .before .before .before .before in
+    let at-if2 = at-container .before .before .before .before .before .before .before .before in
     let at-class = at-if2 .before in
     let at-begin = at-class .before .before .before .before in (
       record {

@@ -23,24 +23,34 @@ sub-top c = search needs
 element-copy-out-object : tie.Need-element-copy-out-object
 element-copy-out-object c = search needs
 
+mul-wide : tie.Need-mul-wide
+mul-wide c = search needs
+
+element-copy-out-wide : tie.Need-element-copy-out-wide
+element-copy-out-wide c = search needs
+
+wide-requires : tie.Need-wide-requires
+wide-requires c κs = search needs
+
 enter-item-requires : tie.Need-enter-item-requires
 enter-item-requires c κs = search needs
 
 advance-requires : tie.Need-advance-requires
 advance-requires c κs =
-    let pre = c .before .before .before .before .before .before .before .pre in
+    let pre = c .before .before .before .before .before .before .before .before .before .pre in
     (pre .0, (c .enter-item .ensures .name-order, c .enter-item .ensures .name-within))
 
 returns-2 : tie.Need-returns-2
 returns-2 c =
     let at-enter-item = c .before in
-    let at-if1 = at-enter-item .before .before .before in
+    let at-wide = at-enter-item .before in
+    let at-if1 = at-wide .before .before .before .before in
     let pre = at-if1 .before .before .before .before .pre in
     record {
       onward = at-enter-item .enter-item .ensures .onward;
       within = at-enter-item .enter-item .ensures .within;
       due = λ x h whole levels held waits list y.
-          item-due h (y .item (pre .1 .1 .0) (at-if1 .if1 .left)) refl (at-enter-item .enter-item .ensures) (c .advance .ensures);
+          item-due h (y .item (pre .1 .1 .0) (at-if1 .if1 .left)) refl (at-wide .wide .ensures) (at-enter-item .enter-item .ensures) (c .advance .ensures);
     }
 
 pub coming-spec : {M : Type 1} → statement M
@@ -50,6 +60,9 @@ coming-spec =
     returns
     sub-top
     element-copy-out-object
+    mul-wide
+    element-copy-out-wide
+    wide-requires
     enter-item-requires
     advance-requires
     returns-2)

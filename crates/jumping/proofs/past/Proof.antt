@@ -26,15 +26,22 @@ returns c =
           absurd (omega (arith, at-if1 .if1 .taken, past-inside (pre .1 .2) (at-skip-blanks .skip-blanks .ensures) y));
     }
 
+sub-top : tie.Need-sub-top
+sub-top c = search needs
+
 shared-slice-read-if2 : tie.Need-shared-slice-read-if2
 shared-slice-read-if2 c = search needs
+
+count-item-requires : tie.Need-count-item-requires
+count-item-requires c κs = search needs
 
 add-after : tie.Need-add-after
 add-after c = search needs
 
 returns-2 : tie.Need-returns-2
 returns-2 c =
-    let at-if1 = c .before .before in
+    let at-if2 = c .before .before in
+    let at-if1 = at-if2 .before .before .before in
     let at-skip-blanks = at-if1 .before in
     let pre = at-skip-blanks .before .before .before .pre in
     record {
@@ -52,13 +59,10 @@ returns-2 c =
       keeps = λ x whole brackets y.
           record {
             root = λ e g. absurd (pre .1 .2 g);
-            item = λ e g. past-comma (pre .1 .2) (at-skip-blanks .skip-blanks .ensures) (c .if2 .taken) y;
+            item = λ e g. past-comma (pre .1 .2) (at-skip-blanks .skip-blanks .ensures) (omega (arith, pre .0)) (at-if2 .if2 .taken) (c .count-item .ensures) y;
             passed = λ e. absurd (true≢false e);
           };
     }
-
-sub-top : tie.Need-sub-top
-sub-top c = search needs
 
 pop-frame-requires : tie.Need-pop-frame-requires
 pop-frame-requires c κs = search needs
@@ -85,8 +89,8 @@ returns-3 : tie.Need-returns-3
 returns-3 c =
     let at-pass = c .before .before in
     let at-pop-frame = at-pass .before .before .before in
-    let at-if2 = at-pop-frame .before .before in
-    let at-if1 = at-if2 .before .before in
+    let at-if2 = at-pop-frame .before in
+    let at-if1 = at-if2 .before .before .before in
     let at-skip-blanks = at-if1 .before in
     let pre = at-skip-blanks .before .before .before .pre in
     record {
@@ -106,10 +110,11 @@ past-spec =
     skip-blanks-requires
     lost-requires
     returns
+    sub-top
     shared-slice-read-if2
+    count-item-requires
     add-after
     returns-2
-    sub-top
     pop-frame-requires
     mul-wait
     element-copy-out-wait

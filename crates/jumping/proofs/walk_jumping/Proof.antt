@@ -12,11 +12,12 @@ use Rattle.jumping.proofs.walk_jumping.Statement.{statement}
 use Rattle.jumping.proofs.walk_jumping.Tie as tie
 
 abbrev Inv-loop : tie.InvT-loop
-Inv-loop query steps «record» list₀ classes starts ends levels₀ held₀ waits₀ brackets₀ block₀ a₀ list levels held waits brackets block a =
-    Running query steps «record» (pile levels₀ held₀ waits₀ brackets₀) list₀ a₀ (pile levels held waits brackets) list a × Kept «record» block
+Inv-loop query «record» list₀ classes kinds operands levels₀ held₀ waits₀ brackets₀ counts₀ block₀ a₀ list levels held waits brackets counts block a =
+    Running query kinds operands «record» (pile levels₀ held₀ waits₀ brackets₀ counts₀) list₀ a₀ (pile levels held waits brackets counts) list a
+    × Kept «record» block
 
 abbrev μ-loop : tie.MeasureT-loop
-μ-loop query steps «record» list₀ classes starts ends levels₀ held₀ waits₀ brackets₀ block₀ a₀ list levels held waits brackets block a =
+μ-loop query «record» list₀ classes kinds operands levels₀ held₀ waits₀ brackets₀ counts₀ block₀ a₀ list levels held waits brackets counts block a =
     turnsLeft (length «record») (a .at) (a .item)
 
 classes-requires : tie.Need-classes-requires Inv-loop μ-loop
@@ -36,19 +37,14 @@ turn-requires c κs =
     let at-loop = c .before .before .before .before .before .before .before .before .before in
     let at-classes = at-loop .before .before .before .before .before in
     let pre = at-classes .before .before .before .before .pre in
-    let still = at-loop .loop .inv .0 in (
-      at-classes .classes .ensures,
-      (
-        (pre .0, record { starts-are = refl; ends-are = refl }),
-        ((pre .1, still .inside), ((still .room, still .few, still .in-container), at-loop .loop .inv .1)),
-      ),
-    )
+    let still = at-loop .loop .inv .0 in
+    (at-classes .classes .ensures, (pre .0, ((pre .1, still .inside), ((still .room, still .few, still .in-container), at-loop .loop .inv .1))))
 
 same-length : tie.Need-same-length Inv-loop μ-loop
 same-length c =
     let at-turn = c .before .before .before in
     let at-loop = at-turn .before .before .before .before .before .before .before .before .before .before in
-    at-turn .turn .kept .1 .1 .1 .1 .1 .1 .1 .0 ∙ at-loop .loop .inv .0 .size-is
+    at-turn .turn .kept .1 .1 .1 .1 .1 .1 .0 ∙ at-loop .loop .inv .0 .size-is
 
 returns : tie.Need-returns Inv-loop μ-loop
 returns c =
@@ -64,7 +60,7 @@ loop-again : tie.Need-loop-again Inv-loop μ-loop
 loop-again c =
     let at-turn = c .before .before .before in
     let at-loop = at-turn .before .before .before .before .before .before .before .before .before .before in (
-      running-on (at-loop .loop .inv .0) (at-turn .turn .ensures .0) (at-turn .turn .kept .1 .1 .1 .1 .1 .1 .1 .0) (c .if1 .left),
+      running-on (at-loop .loop .inv .0) (at-turn .turn .ensures .0) (at-turn .turn .kept .1 .1 .1 .1 .1 .1 .0) (c .if1 .left),
       at-turn .turn .ensures .1,
     )
 

@@ -27,24 +27,24 @@ use Rattle.scan.proofs.skip_blanks.Reads as skip-blanks-reads
 use Rattle.plain.proofs.+walk_items+walk_value.{statement}
 use Rattle.plain.proofs.+walk_items+walk_value.Tie.{close}
 
--- the measures: twice the levels left, the sixth argument, and one more for items
-abbrev items-levels : Measures 4 walk-items-kinds.ps ℕ
-items-levels κs a = a .1 .1 .1 .1 .1 .0 * 2 + 1
+-- the measures: twice the levels left, the seventh argument, and one more for items
+abbrev items-levels : Measures 5 walk-items-kinds.ps ℕ
+items-levels κs a = a .1 .1 .1 .1 .1 .1 .0 * 2 + 1
 
-abbrev value-levels : Measures 4 walk-value-kinds.ps ℕ
-value-levels κs a = a .1 .1 .1 .1 .1 .0 * 2
+abbrev value-levels : Measures 5 walk-value-kinds.ps ℕ
+value-levels κs a = a .1 .1 .1 .1 .1 .1 .0 * 2
 
-abbrev items-at : ℕ → In 4 walk-items-kinds.ps
-items-at t = and 4 walk-items-kinds.ps (is 4 walk-items-kinds.ps items-levels t) walk-items.Pre
+abbrev items-at : ℕ → In 5 walk-items-kinds.ps
+items-at t = and 5 walk-items-kinds.ps (is 5 walk-items-kinds.ps items-levels t) walk-items.Pre
 
-abbrev items-below : ℕ → In 4 walk-items-kinds.ps
-items-below t = and 4 walk-items-kinds.ps (falls 4 walk-items-kinds.ps _<_ items-levels t) walk-items.Pre
+abbrev items-below : ℕ → In 5 walk-items-kinds.ps
+items-below t = and 5 walk-items-kinds.ps (falls 5 walk-items-kinds.ps _<_ items-levels t) walk-items.Pre
 
-abbrev value-at : ℕ → In 4 walk-value-kinds.ps
-value-at t = and 4 walk-value-kinds.ps (is 4 walk-value-kinds.ps value-levels t) walk-value.Pre
+abbrev value-at : ℕ → In 5 walk-value-kinds.ps
+value-at t = and 5 walk-value-kinds.ps (is 5 walk-value-kinds.ps value-levels t) walk-value.Pre
 
-abbrev value-below : ℕ → In 4 walk-value-kinds.ps
-value-below t = and 4 walk-value-kinds.ps (falls 4 walk-value-kinds.ps _<_ value-levels t) walk-value.Pre
+abbrev value-below : ℕ → In 5 walk-value-kinds.ps
+value-below t = and 5 walk-value-kinds.ps (falls 5 walk-value-kinds.ps _<_ value-levels t) walk-value.Pre
 
 -- what the functions that are called ask and promise
 abbrev items-claims : ℕ → walk-items-lts.Claims
@@ -76,11 +76,12 @@ value-claims t = (
 )
 
 abbrev items-inv : walk-items-lts.InvT-loop
-items-inv classes query steps «record» at left object node list₀ first starts ends i₀ sum₀ list i sum =
-    (length list ≡ length list₀) × AtItem query steps «record» at left object (stateOf node) (tallyOf list₀ sum₀) i (tallyOf list sum)
+items-inv classes query kinds operands «record» at left object node list₀ first i₀ index₀ sum₀ list i index sum =
+    (length list ≡ length list₀)
+    × AtItem query kinds operands «record» at left object (stateOf node) (tallyOf list₀ sum₀) i index (tallyOf list sum)
 
 abbrev items-measure : walk-items-lts.MeasureT-loop
-items-measure classes query steps «record» at left object node list₀ first starts ends i₀ sum₀ list i sum = length «record» - i
+items-measure classes query kinds operands «record» at left object node list₀ first i₀ index₀ sum₀ list i index sum = length «record» - i
 
 -- the items of a container, where the measure is t
 module _ (t : ℕ) where
@@ -106,16 +107,15 @@ module _ (t : ℕ) where
 
   items-loop-holds : walk-items-lts.Need-loop-holds (items-claims t) (items-at t) walk-items.Post items-inv items-measure
   items-loop-holds c =
-      let tested = c .before .before in
-      (refl, items-begin (tested .before .before .before .before .skip-blanks .ensures) (λ e. tested .if2 .left (tested .before .class .ensures ∙ e)))
+      (refl, items-begin (c .before .before .before .before .skip-blanks .ensures) (λ e. c .if2 .left (c .before .class .ensures ∙ e)))
 
   items-enter-child-requires : walk-items-lts.Need-enter-child-requires (items-claims t) (items-at t) walk-items.Post items-inv items-measure
   items-enter-child-requires c κs = search needs
 
   items-walk-value-requires : walk-items-lts.Need-walk-value-requires (items-claims t) (items-at t) walk-items.Post items-inv items-measure
   items-walk-value-requires c κs =
-      let at-loop = c .before .before .before .before .before in
-      let asked = at-loop .before .before .before .before .before .before .before .before .before .before .before .pre in
+      let at-loop = c .before .before .before in
+      let asked = at-loop .before .before .before .before .before .before .before .before .before .pre in
       let bounds = asked .1 .1 .1 in
       let child = c .before .before .enter-child .ensures in
       (omega (arith, asked .0), (asked .1 .0, (asked .1 .1 .0, (bounds .0, child .within, omega (arith, bounds .2, child .one-more)))))
@@ -130,7 +130,7 @@ module _ (t : ℕ) where
   items-returns-3 c =
       let walked = c .before .before .before .before .before in
       let entered = walked .before .before .before in
-      let item = item-walked (entered .before .before .before .loop .inv .1) (entered .enter-child .ensures) (walked .walk-value .ensures) in
+      let item = item-walked (entered .before .loop .inv .1) (entered .enter-child .ensures) (walked .walk-value .ensures) in
       more-cut item (c .before .skip-blanks2 .ensures) (c .if3 .taken)
 
   items-shared-slice-read-byte : walk-items-lts.Need-shared-slice-read-byte (items-claims t) (items-at t) walk-items.Post items-inv items-measure
@@ -138,8 +138,8 @@ module _ (t : ℕ) where
 
   items-add-end-2 : walk-items-lts.Need-add-end-2 (items-claims t) (items-at t) walk-items.Post items-inv items-measure
   items-add-end-2 c =
-      let at-loop = c .before .before .before .before .before .before .before .before .before .before .before .before in
-      let asked = at-loop .before .before .before .before .before .before .before .before .before .before .before .pre in
+      let at-loop = c .before .before .before .before .before .before .before .before .before .before in
+      let asked = at-loop .before .before .before .before .before .before .before .before .before .pre in
       omega (arith, asked .1 .1 .1 .0, c .before .if3 .left)
 
   items-same-length-2 : walk-items-lts.Need-same-length-2 (items-claims t) (items-at t) walk-items.Post items-inv items-measure
@@ -150,8 +150,14 @@ module _ (t : ℕ) where
       let inside = c .before .before in
       let walked = inside .before .before .before .before .before in
       let entered = walked .before .before .before in
-      let item = item-walked (entered .before .before .before .loop .inv .1) (entered .enter-child .ensures) (walked .walk-value .ensures) in
+      let item = item-walked (entered .before .loop .inv .1) (entered .enter-child .ensures) (walked .walk-value .ensures) in
       more-none item (inside .before .skip-blanks2 .ensures) (inside .if3 .left) (c .if4 .taken)
+
+  items-add-index : walk-items-lts.Need-add-index (items-claims t) (items-at t) walk-items.Post items-inv items-measure
+  items-add-index c =
+      let at-loop = c .before .before .before .before .before .before .before .before .before .before .before in
+      let asked = at-loop .before .before .before .before .before .before .before .before .before .pre in
+      omega (arith, asked .1 .1 .1 .0, at-loop .loop .inv .1 .behind, at-loop .loop .inv .1 .within)
 
   items-loop-less : walk-items-lts.Need-loop-less (items-claims t) (items-at t) walk-items.Post items-inv items-measure
   items-loop-less c = search needs
@@ -161,7 +167,7 @@ module _ (t : ℕ) where
       let inside = c .before .before in
       let walked = inside .before .before .before .before .before in
       let entered = walked .before .before .before in
-      let item = item-walked (entered .before .before .before .loop .inv .1) (entered .enter-child .ensures) (walked .walk-value .ensures) in
+      let item = item-walked (entered .before .loop .inv .1) (entered .enter-child .ensures) (walked .walk-value .ensures) in
       (search needs, more-again item (inside .before .skip-blanks2 .ensures) (inside .if3 .left) (c .if4 .left))
 
 -- a value
@@ -268,6 +274,7 @@ pub +walk-items+walk-value-spec : {M : Type 1} → statement M
     (items-add-end-2 t)
     (items-same-length-2 t)
     (items-returns-4 t)
+    (items-add-index t)
     (items-loop-less t)
     (items-loop-again t))
     (λ t. walk-value-lts.spec

@@ -16,9 +16,9 @@ root-state-requires c κs = search needs
 
 walk-value-requires : tie.Need-walk-value-requires
 walk-value-requires c κs =
-    let rooted = c .before .before in
+    let rooted = c .before .before .before in
     let blanks = rooted .before in
-    let classed = blanks .before in
+    let classed = blanks .before .before .before in
     let pre = classed .before .before .before .before .pre in
     (classed .classes .ensures, (pre .0, (pre .1, blanks .skip-blanks .ensures .within, omega (arith, rooted .root-state .ensures .no-frames))))
 
@@ -28,7 +28,7 @@ same-length c = search needs
 returns : tie.Need-returns
 returns c =
     let entered = c .before .before .before in
-    let rooted = entered .before .before .before in
+    let rooted = entered .before .before .before .before in
     walks-root (rooted .before .skip-blanks .ensures) (rooted .root-state .ensures) (entered .walk-value .ensures)
 
 pub walk-plain-spec : {M : Type 1} → statement M
