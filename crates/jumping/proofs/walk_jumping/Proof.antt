@@ -1,6 +1,6 @@
 -- The loop's invariant: what was ahead before the root still is. Each turn leaves fewer; when the root is passed nothing is ahead, and the
 -- tally is that of all nodes. Assumes nothing.
-use mathlib.Core.Path.{refl, _∙_}
+use mathlib.Core.Path.{_∙_}
 use lib.ListN.{length}
 use Rattle.leap.specs.Passing.{Kept}
 use Rattle.pile.specs.Pile.{pile}
