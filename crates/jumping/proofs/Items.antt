@@ -18,13 +18,13 @@ use Rattle.select.specs.Visits.{visits}
 use Rattle.select.specs.Ways.{frameIf}
 use Rattle.scan.specs.Places.{same-place, past-blanks, past-key}
 use Rattle.scan.specs.Scans.{EndsBlanks, EntersItem}
-use Rattle.marks.specs.Advances.{labelBy, Advances}
+use Rattle.marks.specs.Advances.{Advances}
 use Rattle.automaton.specs.State.{nextMarks, nextPicked, next}
 use Rattle.automaton.specs.Tally.{Tally, tallied}
 use Rattle.automaton.specs.Halves.{finish}
 use Rattle.walk.specs.Ahead.{valueAt}
 use Rattle.walk.specs.AheadLaws as A
-use Rattle.walk.specs.Labels.{label-is}
+use Rattle.walk.specs.Labels.{labelBy, label-is}
 use Rattle.pile.specs.Pile.{Pile, pile, kindAt, ValuePassed, root, item, ItemDue, ValueDue}
 use Rattle.pile.specs.PileLaws.{passed-sized, passed-counted, at-position, level-counted, popped}
 use Rattle.pile.specs.Moves.{Pops, CountsOn}

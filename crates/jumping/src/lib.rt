@@ -4,7 +4,8 @@ use enter::value;
 use json::MAX_DEPTH;
 use leap::KEPT;
 use leap::none_kept;
-use marks::advance;
+use marks::advance_element;
+use marks::advance_member;
 use pairs::Counts;
 use pile::Coming;
 use pile::Standing;
@@ -94,25 +95,23 @@ fn coming(
     }
     let top = a.depth - 1;
     let object = brackets[top] == OBJECT;
-    let index = wide(counts[top]);
     let item = enter_item(record, at, object);
-    let from = item.from;
-    let to = item.to;
-    let child = advance(
-        query,
-        kinds,
-        operands,
-        marks,
-        record,
-        from,
-        to,
-        object,
-        index,
-    );
+    if object {
+        let from = item.from;
+        let to = item.to;
+        let member = advance_member(query, kinds, operands, marks, record, from, to);
+        return Coming {
+            at: item.value,
+            marks: member.marks,
+            picked: member.picked,
+        };
+    }
+    let index = wide(counts[top]);
+    let element = advance_element(kinds, operands, marks, index);
     Coming {
         at: item.value,
-        marks: child.marks,
-        picked: child.picked,
+        marks: element.marks,
+        picked: element.picked,
     }
 }
 

@@ -25,7 +25,7 @@ use Rattle.select.specs.Nodes.{Label, member, element}
 use Rattle.select.specs.MarksStep.{stepHits}
 use Rattle.select.specs.Ways.{hits}
 use Rattle.automaton.specs.State.{nextMark, nextMarks, pickAt, nextPicked}
-use Rattle.marks.specs.Advances.{isName, nameIs, positionIs, Chosen, labelBy, Taken, Advances}
+use Rattle.marks.specs.Advances.{isName, nameIs, positionIs, Chosen, Taken, Advances}
 
 -- what takes an element, and what takes a member
 
@@ -206,11 +206,3 @@ module _ (k : Kinds) (m t : ℕ) (few : k .count ≤ 16) (some-steps : k .count 
       → Advances q k operands m l (bitAnd unmasked (1 * 2 ^ k .count % 2 ^ 32 - 1)) (eqb (bitAnd (t / 2 ^ (k .count - 1)) 1) 1)
   advances q operands l got =
       record { marks-are = λ x h. marks-next q operands l got x h; picked-is = λ x h. picked-next q operands l got x h }
-
--- the label of a child, by what it is a child of
-module _ {q : List ℕ} {k : Kinds} {operands : List ℕ} {m : ℕ} {marks : ℕ} {o picked : Bool} (name : List ℕ) (j : ℕ) where
-  pub of-object : o ≡ true → Advances q k operands m (member name) marks picked → Advances q k operands m (labelBy o name j) marks picked
-  of-object e h = rw e h
-
-  pub of-array : o ≡ false → Advances q k operands m (element j) marks picked → Advances q k operands m (labelBy o name j) marks picked
-  of-array e h = rw e h

@@ -1,7 +1,7 @@
 -- What the functions on marks promise (document 01, "Marks, frames, the pile").
 use mathlib.Core.Path.{_≡_}
 use mathlib.Core.List.{List}
-use mathlib.Core.Bool.{Bool, true, false, _&&_}
+use mathlib.Core.Bool.{Bool, _&&_}
 use Prim.Native.Nat.{ℕ}
 use lib.Dec.{ltb, eqb}
 use lib.ListN.{getD, getElem?}
@@ -11,7 +11,7 @@ use Rattle.encoding.specs.Bytes.{sameBytes}
 use Rattle.query_parser.specs.Holds.{Holds, nameStart, nameEnd}
 use Rattle.query.specs.Steps.{Step}
 use Rattle.query_parser.specs.declared.compiled.Kinds.{Kinds}
-use Rattle.select.specs.Nodes.{Label, member, element}
+use Rattle.select.specs.Nodes.{Label}
 use Rattle.select.specs.MarksStep.{stepHits}
 use Rattle.automaton.specs.State.{nextMarks, nextPicked}
 
@@ -32,11 +32,6 @@ positionIs operands j i = eqb (getD operands i 0) j
 -- of the marks of so many steps, those of which f holds
 abbrev pub Chosen : (count marks : ℕ) → (ℕ → Bool) → ℕ → Type 0
 Chosen count m f r = (i : ℕ) → bit i r ≡ (ltb i count && (bit i m && f i))
-
--- the label of a member by its name's bytes, or of an element by its position
-abbrev pub labelBy : (isObject : Bool) → (name : List ℕ) → (position : ℕ) → Label
-labelBy true name j = member name
-labelBy false name j = element j
 
 -- the marks whose next step takes the child with this label
 pub record Taken (q : List ℕ) (k : Kinds) (operands : List ℕ) (marks : ℕ) (l : Label) (r : ℕ) : Type 0 where

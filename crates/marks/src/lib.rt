@@ -14,7 +14,7 @@ ghost use Rattle.query.specs.Verdict.{maxSteps};
 ghost use Rattle.query_parser.specs.Holds.{nameStart, nameEnd, Fits};
 ghost use Rattle.select.specs.Nodes.{Label, member, element};
 ghost use Rattle.select.specs.Ways.{frameIf};
-ghost use Rattle.marks.specs.Advances.{isName, nameIs, positionIs, Chosen, labelBy, Taken, Advances};
+ghost use Rattle.marks.specs.Advances.{isName, nameIs, positionIs, Chosen, Taken, Advances};
 
 // A child's marks, and whether it is picked out.
 pub struct Advanced {
@@ -181,9 +181,8 @@ fn child(kinds: Kinds, marks: u16, hits: u16) -> Advanced
     }
 }
 
-// The marks of a child from its parent's, and whether the child is picked out. Of a member its name's bytes are the record's from `x` to
-// `y`; of an element `index` is its position.
-pub fn advance(
+// The marks of a member from its object's, and whether it is picked out. Its name's bytes are the record's from `x` to `y`.
+pub fn advance_member(
     query: &[u8],
     kinds: Kinds,
     operands: &[u64; 16],
@@ -191,17 +190,23 @@ pub fn advance(
     record: &[u8],
     x: usize,
     y: usize,
-    object: bool,
-    index: usize,
 ) -> Advanced
     requires { ⌜ Fits (now query) kinds (now operands) ⌝ }
     requires { ⌜ (x ≤ y) × (y ≤ length (now «record»)) ⌝ }
-    ensures { λ r. ⌜ Advances (now (query .entry)) kinds (now (operands .entry)) marks (labelBy object (slice x y (now («record» .entry))) index) (r .marks) (r .picked) ⌝ }
+    ensures { λ r. ⌜ Advances (now (query .entry)) kinds (now (operands .entry)) marks (member (slice x y (now («record» .entry)))) (r .marks) (r .picked) ⌝ }
 {
-    if object {
-        let hits = taking_member(query, kinds, operands, marks, record, x, y);
-        return child(kinds, marks, hits);
-    }
+    child(
+        kinds,
+        marks,
+        taking_member(query, kinds, operands, marks, record, x, y),
+    )
+}
+
+// The marks of the element at the position `index` from its array's, and whether it is picked out.
+pub fn advance_element(kinds: Kinds, operands: &[u64; 16], marks: u16, index: usize) -> Advanced
+    requires { ⌜ kinds .count ≤ maxSteps ⌝ }
+    ensures { λ r. ⌜ ((q : List ℕ) → Advances q kinds (now (operands .entry)) marks (element index) (r .marks) (r .picked)) ⌝ }
+{
     child(kinds, marks, taking_element(kinds, operands, marks, index))
 }
 
