@@ -4,8 +4,9 @@ use enter::value;
 use json::MAX_DEPTH;
 use leap::KEPT;
 use leap::none_kept;
-use marks::advance_element;
-use marks::advance_member;
+use marks::advance;
+use marks::taking_element;
+use marks::taking_member;
 use pairs::Counts;
 use pile::Coming;
 use pile::Standing;
@@ -96,22 +97,18 @@ fn coming(
     let top = a.depth - 1;
     let object = brackets[top] == OBJECT;
     let item = enter_item(record, at, object);
-    if object {
-        let from = item.from;
-        let to = item.to;
-        let member = advance_member(query, kinds, operands, marks, record, from, to);
-        return Coming {
-            at: item.value,
-            marks: member.marks,
-            picked: member.picked,
-        };
-    }
-    let index = wide(counts[top]);
-    let element = advance_element(kinds, operands, marks, index);
+    let from = item.from;
+    let to = item.to;
+    let hits = if object {
+        taking_member(query, kinds, operands, marks, record, from, to)
+    } else {
+        taking_element(kinds, operands, marks, wide(counts[top]))
+    };
+    let child = advance(kinds, marks, hits);
     Coming {
         at: item.value,
-        marks: element.marks,
-        picked: element.picked,
+        marks: child.marks,
+        picked: child.picked,
     }
 }
 

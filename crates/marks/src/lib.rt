@@ -126,7 +126,7 @@ fn positioned(operands: &[u64; 16], count: usize, marks: u16, index: usize) -> u
 }
 
 // Of the marks, those whose next step takes a member whose name is the record's bytes from `x` to `y`.
-fn taking_member(
+pub fn taking_member(
     query: &[u8],
     kinds: Kinds,
     operands: &[u64; 16],
@@ -148,7 +148,7 @@ fn taking_member(
 }
 
 // Of the marks, those whose next step takes the element at the position `index`.
-fn taking_element(kinds: Kinds, operands: &[u64; 16], marks: u16, index: usize) -> u16
+pub fn taking_element(kinds: Kinds, operands: &[u64; 16], marks: u16, index: usize) -> u16
     requires { ⌜ kinds .count ≤ maxSteps ⌝ }
     ensures { λ r. ⌜ ((q : List ℕ) → Taken q kinds (now (operands .entry)) marks (element index) r) ⌝ }
 {
@@ -161,7 +161,7 @@ fn taking_element(kinds: Kinds, operands: &[u64; 16], marks: u16, index: usize) 
 }
 
 // A child's marks, and whether it is picked out, from its parent's marks and the hits, those of them whose next step takes it.
-fn child(kinds: Kinds, marks: u16, hits: u16) -> Advanced
+pub fn advance(kinds: Kinds, marks: u16, hits: u16) -> Advanced
     requires { ⌜ kinds .count ≤ maxSteps ⌝ }
     ensures { λ r. ⌜ ((q operands : List ℕ) (l : Label) → Taken q kinds operands marks l hits → Advances q kinds operands marks l (r .marks) (r .picked)) ⌝ }
 {
@@ -179,35 +179,6 @@ fn child(kinds: Kinds, marks: u16, hits: u16) -> Advanced
         marks: (hits << 1 | (marks & kinds.deep)) & all,
         picked,
     }
-}
-
-// The marks of a member from its object's, and whether it is picked out. Its name's bytes are the record's from `x` to `y`.
-pub fn advance_member(
-    query: &[u8],
-    kinds: Kinds,
-    operands: &[u64; 16],
-    marks: u16,
-    record: &[u8],
-    x: usize,
-    y: usize,
-) -> Advanced
-    requires { ⌜ Fits (now query) kinds (now operands) ⌝ }
-    requires { ⌜ (x ≤ y) × (y ≤ length (now «record»)) ⌝ }
-    ensures { λ r. ⌜ Advances (now (query .entry)) kinds (now (operands .entry)) marks (member (slice x y (now («record» .entry)))) (r .marks) (r .picked) ⌝ }
-{
-    child(
-        kinds,
-        marks,
-        taking_member(query, kinds, operands, marks, record, x, y),
-    )
-}
-
-// The marks of the element at the position `index` from its array's, and whether it is picked out.
-pub fn advance_element(kinds: Kinds, operands: &[u64; 16], marks: u16, index: usize) -> Advanced
-    requires { ⌜ kinds .count ≤ maxSteps ⌝ }
-    ensures { λ r. ⌜ ((q : List ℕ) → Advances q kinds (now (operands .entry)) marks (element index) (r .marks) (r .picked)) ⌝ }
-{
-    child(kinds, marks, taking_element(kinds, operands, marks, index))
 }
 
 // The frames with a container whose marks these are: one more where they differ from those of the container around it.

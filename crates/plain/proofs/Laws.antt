@@ -34,7 +34,7 @@ use Rattle.walk.specs.AheadLaws.{value-stopped, key-solid, item-passed, more-in
 use Rattle.walk.specs.Labels.{labelBy, label-is}
 use Rattle.walk.specs.ValueLaws.{scalar-passed, container-entered}
 use Rattle.walk.specs.Walks.{Walks}
-use Rattle.plain.specs.Plain.{stateIn, RootState, EntersChild, WalksValue, WalksItems}
+use Rattle.plain.specs.Plain.{RootState, EntersChild, WalksValue, WalksItems}
 
 -- a state by its three parts
 abbrev state : ℕ → Bool → ℕ → State
@@ -55,23 +55,19 @@ unfolding frameIf
 frame-more true k = omega arith
 frame-more false k = omega arith
 
-pub enters-child : {q : List ℕ} {kinds : Kinds} {ops s : List ℕ} {a : ℕ} {o : Bool} {st : State} {v x y m : ℕ} {p : Bool} (j : ℕ)
-    → EntersItem s a o v x y → Advances q kinds ops (st .marks) (labelBy o (slice x y s) j) m p → EntersChild q kinds ops s a o j st v (stateIn st m p)
+pub enters-child : {q : List ℕ} {kinds : Kinds} {ops s : List ℕ} {a : ℕ} {o : Bool} {j : ℕ} {st : State} {v x y m : ℕ} {p : Bool}
+    {k : ℕ} → EntersItem s a o v x y → Advances q kinds ops (st .marks) (labelBy o (slice x y s) j) m p → k ≡ frameIf (eqb (st .marks) m) (st .frames)
+    → EntersChild q kinds ops s a o j st v (state m p k)
 unfolding next
-enters-child {s = s} {o = o} {st = st} {x = x} {y = y} {m = m} j item moved =
+enters-child {s = s} {o = o} {j = j} {st = st} {x = x} {y = y} {m = m} item moved framed =
     record {
       onward = item .onward;
       within = item .within;
-      one-more = frame-more (eqb (st .marks) m) (st .frames);
+      one-more = omega (arith, frame-more (eqb (st .marks) m) (st .frames));
       exact = λ z h w key rest d f.
           let e = item .exact w key rest d f in
-          (e .0, rw (← label-is s o key j x y (e .1), ← moved .marks-are z h, ← moved .picked-is z h));
+          (e .0, rw (framed, ← label-is s o key j x y (e .1), ← moved .marks-are z h, ← moved .picked-is z h));
     }
-
--- an item's value at v and its state, by what makes them
-pub entered-as : {q : List ℕ} {kinds : Kinds} {ops s : List ℕ} {a : ℕ} {o : Bool} {j : ℕ} {st st′ st″ : State} {v v′ : ℕ} → v′ ≡ v → st″ ≡ st′
-    → EntersChild q kinds ops s a o j st v st′ → EntersChild q kinds ops s a o j st v′ st″
-entered-as e f h = rw (e, f) h
 
 -- a value that is ahead has a first byte
 value-inside : {next′ : State → Label → State} {s rest : List ℕ} {st : State} {n : ℕ} {goal t : Tally} {end a : ℕ}

@@ -3,7 +3,6 @@ use mathlib.Core.Path.{_≡_}
 use mathlib.Core.List.{List}
 use mathlib.Core.Bool.{Bool, true}
 use Prim.Native.Nat.{ℕ, _+_, _≤_}
-use lib.Dec.{eqb}
 use lib.ListN.{length, drop}
 use Rattle.encoding.specs.Bytes.{Blanks, putBlanks}
 use Rattle.json.specs.Grammar.{Key, putKey}
@@ -11,7 +10,6 @@ use Rattle.query_parser.specs.Holds.{Holds}
 use Rattle.query.specs.Steps.{Step}
 use Rattle.query_parser.specs.declared.compiled.Kinds.{Kinds}
 use Rattle.select.specs.Nodes.{labelOf}
-use Rattle.select.specs.Ways.{frameIf}
 use Rattle.scan.specs.Scans.{kindIf}
 use Rattle.scan.specs.Shape.{solid}
 use Rattle.automaton.specs.State.{State, next, start}
@@ -24,10 +22,6 @@ use Rattle.plain.specs.declared.State.{State as Carried}
 -- a state, and a tally, by the parts that a walk carries
 abbrev pub stateOf : Carried → State
 stateOf x = record { marks = x .marks; picked = x .picked; frames = x .frames }
-
--- the state of an item with these marks, in a container with the state st
-abbrev pub stateIn : (st : State) → (marks : ℕ) → (picked : Bool) → State
-stateIn st m p = record { marks = m; picked = p; frames = frameIf (eqb (st .marks) m) (st .frames) }
 
 abbrev pub tallyOf : List ℕ → Counts → Tally
 tallyOf l x = tally l (x .used) (x .peak) (x .stop)

@@ -2,18 +2,16 @@
 use encoding::CLOSING;
 use encoding::OPENING;
 use json::MAX_DEPTH;
-use marks::Advanced;
 use pairs::Counts;
 use query_parser::Compiled;
 use query_parser::Kinds;
-ghost use mathlib.Core.Path.{_≡_};
 ghost use Prim.Native.Nat.{_+_, _≤_, _<_};
 ghost use lib.ListN.{length};
 ghost use Rattle.encoding.specs.ClassTable.{ClassTable};
 ghost use Rattle.json.specs.Verdict.{maxBytes, maxDepth};
 ghost use Rattle.query_parser.specs.Holds.{Fits};
 ghost use Rattle.walk.specs.Walks.{Walks};
-ghost use Rattle.plain.specs.Plain.{stateOf, stateIn, tallyOf, RootState, EntersChild, WalksValue, WalksItems};
+ghost use Rattle.plain.specs.Plain.{stateOf, tallyOf, RootState, EntersChild, WalksValue, WalksItems};
 
 // The bracket that opens an object, and the byte between two items.
 const OBJECT: u8 = b'{';
@@ -57,22 +55,6 @@ fn root_state(count: usize) -> State
     }
 }
 
-// The value at `at` of an item with these marks, in a container with the state `around`.
-fn child_of(at: usize, around: State, next: Advanced) -> Child
-    requires { ⌜ around .frames < maxDepth ⌝ }
-    ensures { λ r. ⌜ (r .at ≡ at) × (stateOf (r .state) ≡ stateIn (stateOf around) (next .marks) (next .picked)) ⌝ }
-{
-    let frames = marks::framed(around.marks, next.marks, around.frames);
-    Child {
-        at,
-        state: State {
-            marks: next.marks,
-            picked: next.picked,
-            frames,
-        },
-    }
-}
-
 // Enters the item at `at` of a container with the state `around`, of which it is item number `index`, from 0: the place of the item's value,
 // and the value's state.
 fn enter_child(
@@ -91,14 +73,23 @@ fn enter_child(
 {
     let item = scan::enter_item(record, at, object);
     let above = around.marks;
-    if object {
-        let from = item.from;
-        let to = item.to;
-        let member = marks::advance_member(query, kinds, operands, above, record, from, to);
-        return child_of(item.value, around, member);
+    let from = item.from;
+    let to = item.to;
+    let hits = if object {
+        marks::taking_member(query, kinds, operands, above, record, from, to)
+    } else {
+        marks::taking_element(kinds, operands, above, index)
+    };
+    let next = marks::advance(kinds, above, hits);
+    let frames = marks::framed(above, next.marks, around.frames);
+    Child {
+        at: item.value,
+        state: State {
+            marks: next.marks,
+            picked: next.picked,
+            frames,
+        },
     }
-    let element = marks::advance_element(kinds, operands, above, index);
-    child_of(item.value, around, element)
 }
 
 // Walks the value at `at`, which nests at most `left` levels deep: lists it if it is picked out, counts its frames if it is a container,

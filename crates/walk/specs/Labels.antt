@@ -7,7 +7,7 @@ use lib.Seq.{slice}
 use Rattle.json.specs.Grammar.{Key}
 use Rattle.select.specs.Nodes.{Label, member, element, labelOf}
 use Rattle.query_parser.specs.declared.compiled.Kinds.{Kinds}
-use Rattle.marks.specs.Advances.{Advances}
+use Rattle.marks.specs.Advances.{Taken}
 use Rattle.scan.specs.Scans.{kindIf, NameAt}
 
 -- of a member by its name, or of an element by its position
@@ -15,13 +15,13 @@ abbrev pub labelBy : (isObject : Bool) → (name : List ℕ) → (position : ℕ
 labelBy true name j = member name
 labelBy false name j = element j
 
--- marks that follow from a member's label, or from an element's, follow from that of the item
-module _ {q : List ℕ} {k : Kinds} {operands : List ℕ} {m marks : ℕ} {o picked : Bool} (name : List ℕ) (j : ℕ) where
-  pub of-object : o ≡ true → Advances q k operands m (member name) marks picked → Advances q k operands m (labelBy o name j) marks picked
-  of-object e h = rw e h
+-- what takes a member by its name, or an element by its position, takes the item
+module _ {q : List ℕ} {k : Kinds} {operands : List ℕ} {m hits hits′ : ℕ} {o : Bool} (name : List ℕ) (j : ℕ) where
+  pub of-object : o ≡ true → hits′ ≡ hits → Taken q k operands m (member name) hits → Taken q k operands m (labelBy o name j) hits′
+  of-object e f h = rw (e, f) h
 
-  pub of-array : o ≡ false → Advances q k operands m (element j) marks picked → Advances q k operands m (labelBy o name j) marks picked
-  of-array e h = rw e h
+  pub of-array : {i : ℕ} → o ≡ false → i ≡ j → hits′ ≡ hits → Taken q k operands m (element i) hits → Taken q k operands m (labelBy o name j) hits′
+  of-array e g f h = rw (e, f, ← g) h
 
 -- in an object or an array, the item at position j, its name from x to y
 pub label-is : (s : List ℕ) (o : Bool) (key : Key (kindIf o)) (j x y : ℕ) → NameAt (kindIf o) key s x y

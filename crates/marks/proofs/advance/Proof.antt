@@ -2,8 +2,8 @@
 -- Assumes nothing.
 use Rattle.marks.proofs.NextMarks.{advances-none, mask-positive, mask-fits, advances}
 use borrow.Author.Needs.{needs}
-use Rattle.marks.proofs.child.Statement.{statement}
-use Rattle.marks.proofs.child.Tie as tie
+use Rattle.marks.proofs.advance.Statement.{statement}
+use Rattle.marks.proofs.advance.Tie as tie
 
 returns : tie.Need-returns
 returns c = λ q operands l t. advances-none q _ operands _ l (c .if1 .taken)
@@ -32,8 +32,8 @@ shr-picked c = search needs
 returns-2 : tie.Need-returns-2
 returns-2 c = advances _ _ _ (c .before .before .pre) (c .before .if1 .left)
 
-pub child-spec : {M : Type 1} → statement M
-child-spec =
+pub advance-spec : {M : Type 1} → statement M
+advance-spec =
     tie.close
     (tie.spec
     returns
