@@ -11,7 +11,7 @@ use Rattle.query.specs.Read.{nameBytes}
 use Rattle.query.specs.Verdict.{maxQueryBytes}
 use Rattle.query_steps.specs.declared.Taking.{Taking}
 use Rattle.query_steps.specs.declared.Taking.the-variants.{Every, Name, Position}
-use Rattle.query_parser.specs.Holds.{isEvery, isNamed, isPositioned, positionOf, nameStart, nameEnd}
+use Rattle.query_parser.specs.Holds.{isEvery, isNamed, isPositioned, positionTaken, nameStart, nameEnd}
 
 -- the bit of each mask, and the operand
 pub record Compiles (q : List ℕ) (s : Step) (e : Entry) : Type 0 where
@@ -22,7 +22,7 @@ pub record Compiles (q : List ℕ) (s : Step) (e : Entry) : Type 0 where
   pub order : e .named ≡ true → nameStart (e .operand) ≤ nameEnd (e .operand)
   pub within : e .named ≡ true → nameEnd (e .operand) ≤ length q
   pub name : e .named ≡ true → slice (nameStart (e .operand)) (nameEnd (e .operand)) q ≡ nameBytes (s .selector)
-  pub position : e .positioned ≡ true → e .operand ≡ positionOf (s .selector)
+  pub position : e .positioned ≡ true → e .operand ≡ positionTaken (s .selector)
 
 -- the bounds of a name are those of a query that is short enough
 abbrev pub Short : Taking → Type 0

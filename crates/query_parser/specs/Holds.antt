@@ -31,10 +31,10 @@ isPositioned (name w) = false
 isPositioned every = false
 isPositioned (position j) = true
 
-abbrev pub positionOf : Selector → ℕ
-positionOf (name w) = 0
-positionOf every = 0
-positionOf (position j) = j
+abbrev pub positionTaken : Selector → ℕ
+positionTaken (name w) = 0
+positionTaken every = 0
+positionTaken (position j) = j
 
 -- the same of a step, if there is one; and the bytes of its name
 
@@ -56,7 +56,7 @@ nameAt (some x) = nameBytes (x .selector)
 
 abbrev pub positionAt : Option Step → ℕ
 positionAt none = 0
-positionAt (some x) = positionOf (x .selector)
+positionAt (some x) = positionTaken (x .selector)
 
 -- the operand of a step with a name is the name's bounds in the query as one number: the place of its first byte, and the place after its last
 
