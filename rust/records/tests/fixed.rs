@@ -38,5 +38,5 @@ fn the_random_cases() {
         bytes.extend(cases::block(&mut random));
         bytes.extend(cases::list(&mut random, numbers % 5).iter().flat_map(|n| n.to_le_bytes()));
     }
-    assert_eq!((bytes.len(), fingerprint(&bytes)), (1_922_414, 6_751_853_891_994_795_012));
+    assert_eq!((bytes.len(), fingerprint(&bytes)), (1_755_589, 9_539_647_331_732_336_617));
 }

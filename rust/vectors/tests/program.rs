@@ -65,13 +65,17 @@ fn vectors_are_sorted() {
     let repeated = r#""selector":"$..*..*","document":[[[1]]],"result":[[1],1,1],
         "result_paths":["$[0][0]","$[0][0][0]","$[0][0][0]"]"#;
     assert_eq!(sort(repeated), "valid, a repeated node listed once");
+    let position = r#""selector":"$[1]","document":[7,8],"result":[8],"result_paths":["$[1]"]"#;
+    assert_eq!(sort(position), "valid as it stands");
     let left_out = |query: &str| {
         sort(&format!(r#""selector":"{query}","document":1,"result":[],"result_paths":[]"#))
     };
     assert_eq!(left_out("$[?@.a]"), "left out: a filter");
     assert_eq!(left_out("$[ -12 :]"), "left out: a slice");
     assert_eq!(left_out("$[::2]"), "left out: a slice");
-    assert_eq!(left_out("$[-1]"), "left out: a position in an array");
+    assert_eq!(left_out("$[1:]"), "left out: a slice");
+    assert_eq!(left_out("$[-1]"), "left out: a position counted from the end");
+    assert_eq!(left_out("$[1,0]"), "left out: several selectors in one bracket");
     assert_eq!(left_out("$['a',1]"), "left out: several selectors in one bracket");
     assert_eq!(left_out(r"$['\\n']"), "left out: an escape in a quoted name");
     assert_eq!(sort(r#""selector":"$.","invalid_selector":true"#), "invalid in both grammars");
