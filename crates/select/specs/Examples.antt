@@ -220,6 +220,11 @@ deep-peak : peak twice deeply ≡ 1
 unfolding peak
 deep-peak = refl
 
+-- `$..[0]..[0]` on [[1,1],1]: deep positions too
+deep-positions-peak : peak (just (pair (pair unit unit) unit)) (everywhere 0 ∷ everywhere 0 ∷ []) ≡ 1
+unfolding peak
+deep-positions-peak = refl
+
 -- `$..b` on {"a":{}}: the mark of a deep step is kept, so no frame
 kept-free : peak (just (one (a ∷ []) hollow)) (deep (0x62 ∷ []) ∷ []) ≡ 0
 unfolding peak
