@@ -87,9 +87,10 @@ typedef struct {
  * Lists the nodes of a record that a query picks out.
  *
  * The list is numbers, two to a node: the node's first byte and the byte after its last. Each node
- * is listed once, and the first bytes rise. A name in the query is compared byte for byte with what
- * stands between the quotes in the record; members that repeat a name all match. A position takes
- * the element of an array that has it, counted from 0, and nothing of an object.
+ * is listed once, and the first bytes rise. A name in the query takes the members whose name has the
+ * same code points, escapes decoded on both sides; a name in the record with half of a surrogate pair
+ * equals none. Members that repeat a name all match. A position takes the element of an array that
+ * has it, counted from 0, and nothing of an object.
  *
  * Ground 0: every node picked out is in the list, `pairs` of them, and no other. `peak` is the most
  *   frames on one path down from the root: an object or array below the root costs a frame if its

@@ -33,9 +33,9 @@ unfoldable pub putBlanks : Blanks → List ℕ → List ℕ
 putBlanks [] s = s
 putBlanks (b ∷ bs) s = blankByte b ∷ putBlanks bs s
 
--- the same bytes
-unfoldable pub sameBytes : List ℕ → List ℕ → Bool
-sameBytes [] [] = true
-sameBytes [] (c ∷ u) = false
-sameBytes (b ∷ s) [] = false
-sameBytes (b ∷ s) (c ∷ u) = eqb b c && sameBytes s u
+-- the same numbers in the same order: bytes, or code points
+unfoldable pub sameNumbers : List ℕ → List ℕ → Bool
+sameNumbers [] [] = true
+sameNumbers [] (c ∷ u) = false
+sameNumbers (b ∷ s) [] = false
+sameNumbers (b ∷ s) (c ∷ u) = eqb b c && sameNumbers s u

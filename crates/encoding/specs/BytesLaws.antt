@@ -12,7 +12,7 @@ use lib.ListN.{length, getD, drop, length-append}
 use lib.Seq.{drop-cons}
 use borrow.Author.Tests.{le-leb, lt-leb, eqb-true, eq-eqb}
 use Rattle.bits.specs.Truth.{and-left, and-right}
-use Rattle.encoding.specs.Bytes.{In, putIn, Blanks, blankByte, putBlanks, sameBytes}
+use Rattle.encoding.specs.Bytes.{In, putIn, Blanks, blankByte, putBlanks, sameNumbers}
 
 -- what stands at a place is the byte there and what follows it
 pub byte-at : (s : List ℕ) (i : ℕ) → i < length s → drop i s ≡ getD s i 0 ∷ drop (i + 1) s
@@ -72,20 +72,20 @@ unfolding putBlanks
 length-blanks [] s = omega arith
 length-blanks (b ∷ w) s = omega (arith, length-blanks w s)
 
-pub same-bytes : (s u : List ℕ) → (sameBytes s u ≡ true) ↔ (s ≡ u)
-unfolding sameBytes
-same-bytes s u = (there s u, λ e. rw e (itself u))
+pub same-numbers : (s u : List ℕ) → (sameNumbers s u ≡ true) ↔ (s ≡ u)
+unfolding sameNumbers
+same-numbers s u = (there s u, λ e. rw e (itself u))
   where
-    there : (s u : List ℕ) → sameBytes s u ≡ true → s ≡ u
+    there : (s u : List ℕ) → sameNumbers s u ≡ true → s ≡ u
     there [] [] e = refl
     there [] (c ∷ u) e = absurd (false≢true e)
     there (b ∷ s) [] e = absurd (false≢true e)
     there (b ∷ s) (c ∷ u) e =
-        let h = and-eq-true-iff (eqb b c) (sameBytes s u) .0 e in
+        let h = and-eq-true-iff (eqb b c) (sameNumbers s u) .0 e in
         let p : b ≡ c = eqb-true b c (h .0) in
         let q : s ≡ u = there s u (h .1) in
         cc
 
-    itself : (s : List ℕ) → sameBytes s s ≡ true
+    itself : (s : List ℕ) → sameNumbers s s ≡ true
     itself [] = refl
-    itself (b ∷ s) = and-eq-true-iff (eqb b b) (sameBytes s s) .1 (eq-eqb b b refl, itself s)
+    itself (b ∷ s) = and-eq-true-iff (eqb b b) (sameNumbers s s) .1 (eq-eqb b b refl, itself s)

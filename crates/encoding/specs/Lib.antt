@@ -9,9 +9,14 @@ pub mod CodePointLaws
 pub mod Decimal
 pub mod DecimalLaws
 pub mod Examples
+pub mod Hex
+pub mod Points
+pub mod PointsLaws
 pub mod Prefix
 pub mod PrefixLaws
 pub mod RowTable
+pub mod Unescape
+pub mod UnescapeLaws
 pub mod Utf8
 pub mod Utf8At
 pub mod Utf8Laws

@@ -8,11 +8,13 @@ use Prim.Native.Nat.{ℕ, zero, suc}
 use native.Mathlib.Omega.{arith}
 use lib.Dec.{T}
 use Rattle.encoding.specs.Bytes.{In, putIn, Blank, Blanks, blankByte, putBlanks}
+use Rattle.encoding.specs.Hex as H
+use Rattle.encoding.specs.Hex.{Hex, hexByte}
 use Rattle.encoding.specs.Utf8 as U
 use Rattle.encoding.specs.Utf8.{Wide, putWide, Second, anyTail, afterE0, afterED, afterF0, afterF4, secondLow}
 use Rattle.encoding.specs.Utf8Laws.{second-some}
 use Rattle.json.specs.Grammar as G
-use Rattle.json.specs.Grammar.{Digit, Int, Frac, Exp, ExpSign, E, eByte, Escape, escapeByte, Hex, hexByte, Char, Minus}
+use Rattle.json.specs.Grammar.{Digit, Int, Frac, Exp, ExpSign, E, eByte, Escape, escapeByte, Char, Minus}
 use Rattle.json.specs.Grammar.{Literal, Kind, array, object, opening, closing, Key, Value, Items, More, Tree}
 use Rattle.json.specs.Grammar.{putLiteral, putInt, putFrac, putExp, putExpSign, putMinus, putChar, putChars, putString}
 use Rattle.json.specs.Grammar.{putKey, putValue, putItems, putMore, text, nesting, itemsNesting, moreNesting}
@@ -198,9 +200,9 @@ module _ (k : Stack) (ρ : Room) (u : List ℕ) (h : Accepts (at after k ρ) u) 
 hex-on : (c c′ : Ctl) (k : Stack) (ρ : Room) (x : Hex) (u : List ℕ) → rules c (top k) ≡ hexRules c′ → Accepts (at c′ k ρ) u →
     Accepts (at c k ρ) (hexByte x ∷ u)
 unfolding landing
-hex-on c c′ k ρ (G.digit b) u p h = range-on c c′ k ρ b u (rw p refl) h
-hex-on c c′ k ρ (G.upper b) u p h = range-on c c′ k ρ b u (rw p refl) h
-hex-on c c′ k ρ (G.lower b) u p h = range-on c c′ k ρ b u (rw p refl) h
+hex-on c c′ k ρ (H.digit b) u p h = range-on c c′ k ρ b u (rw p refl) h
+hex-on c c′ k ρ (H.upper b) u p h = range-on c c′ k ρ b u (rw p refl) h
+hex-on c c′ k ρ (H.lower b) u p h = range-on c c′ k ρ b u (rw p refl) h
 
 module _ (f : Bool) (k : Stack) (ρ : Room) (u : List ℕ) (h : Accepts (at (inString f) k ρ) u) where
   escape-on : (x : Escape) → Accepts (at (escaping f) k ρ) (escapeByte x ∷ u)

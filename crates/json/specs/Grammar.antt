@@ -4,6 +4,7 @@ use mathlib.Core.Path.{_≡_}
 use mathlib.Core.List.{List, [], _∷_}
 use Prim.Native.Nat.{ℕ, suc, max, _≤_}
 use Rattle.encoding.specs.Bytes.{In, putIn, Blanks, putBlanks}
+use Rattle.encoding.specs.Hex.{Hex, hexByte}
 use Rattle.encoding.specs.Utf8.{Wide, putWide}
 
 -- §3: false / null / true
@@ -41,11 +42,6 @@ pub data Exp : Type 0 where
 -- §7: char = unescaped / escape ( one of eight / %x75 4HEXDIG )
 pub data Escape : Type 0 where
   quote backslash slash backspace form line carriage tabulator : Escape
-
-pub data Hex : Type 0 where
-  digit : Digit → Hex
-  upper : In 0x41 0x46 → Hex
-  lower : In 0x61 0x66 → Hex
 
 -- unescaped = %x20-21 / %x23-5B / %x5D-10FFFF, the last in two: the bytes up to 7F, and the code points from 80 on
 pub data Char : Type 0 where
@@ -139,11 +135,6 @@ escapeByte form = 0x66
 escapeByte line = 0x6E
 escapeByte carriage = 0x72
 escapeByte tabulator = 0x74
-
-abbrev pub hexByte : Hex → ℕ
-hexByte (digit d) = d .byte
-hexByte (upper d) = d .byte
-hexByte (lower d) = d .byte
 
 unfoldable pub putChar : Char → List ℕ → List ℕ
 unfolding putWide

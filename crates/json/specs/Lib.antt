@@ -10,6 +10,9 @@ pub mod Machine
 pub mod MachineLaws
 pub mod Parse
 pub mod ParseLaws
+pub mod Points
+pub mod PointsExamples
+pub mod PointsLaws
 pub mod Room
 pub mod RoomLaws
 pub mod RunLaws

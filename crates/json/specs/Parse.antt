@@ -8,10 +8,12 @@ use lib.Dec.{T, leb}
 use lib.ListN.{length}
 use Rattle.encoding.specs.Bytes as B
 use Rattle.encoding.specs.Bytes.{In, Blank, Blanks}
+use Rattle.encoding.specs.Hex as H
+use Rattle.encoding.specs.Hex.{Hex}
 use Rattle.encoding.specs.Utf8 as U
 use Rattle.encoding.specs.Utf8.{Tail}
 use Rattle.json.specs.Grammar as G
-use Rattle.json.specs.Grammar.{Digit, Minus, Int, Frac, ExpSign, E, Exp, Hex, Char, Kind, Name, Key, Value}
+use Rattle.json.specs.Grammar.{Digit, Minus, Int, Frac, ExpSign, E, Exp, Char, Kind, Name, Key, Value}
 
 -- what was read with the bytes after it, or nothing
 abbrev pub Got : Type 0 → Type 0
@@ -135,9 +137,9 @@ module _ {A : Type 0} where
   unfoldable pub parseHex : (Hex → Parser A) → Parser A
   parseHex f =
       parseBy
-      (range 0x30 0x39 (λ x. f (G.digit x)) ∷
-      range 0x41 0x46 (λ x. f (G.upper x)) ∷
-      range 0x61 0x66 (λ x. f (G.lower x)) ∷ [])
+      (range 0x30 0x39 (λ x. f (H.digit x)) ∷
+      range 0x41 0x46 (λ x. f (H.upper x)) ∷
+      range 0x61 0x66 (λ x. f (H.lower x)) ∷ [])
       fail
 
   unfoldable pub parseUnicode : (Char → Parser A) → Parser A

@@ -13,9 +13,11 @@ use borrow.Author.Tests.{ltb-true}
 use Rattle.encoding.specs.Bytes as B
 use Rattle.encoding.specs.Bytes.{In, putIn, Blank, Blanks, blankByte, putBlanks}
 use Rattle.encoding.specs.BytesLaws.{make, in-bounds}
+use Rattle.encoding.specs.Hex as H
+use Rattle.encoding.specs.Hex.{Hex, hexByte}
 use Rattle.encoding.specs.Utf8 as U
 use Rattle.json.specs.Grammar as G
-use Rattle.json.specs.Grammar.{Digit, Minus, Int, Frac, ExpSign, E, Exp, Escape, escapeByte, Hex, hexByte, Char, Kind, Name, Key, Value}
+use Rattle.json.specs.Grammar.{Digit, Minus, Int, Frac, ExpSign, E, Exp, Escape, escapeByte, Char, Kind, Name, Key, Value}
 use Rattle.json.specs.Grammar.{putMinus, putInt, putFrac, putExpSign, putExp, putChar, putChars, putString, putKey}
 use Rattle.json.specs.Append.{length-char, char-positive}
 use Rattle.json.specs.Parse.{Got, Parser, got, fail, on, Case, range, only, choose, pick, parseBy, parseIn, parseByte, many}
@@ -245,9 +247,9 @@ number-parsed g n y e u h = minus-parsed g n _ _ ∙ int-parsed n _ _ (frac-no-d
 module _ {A : Type 0} where
   hex-parsed : (x : Hex) (f : Hex → Parser A) (s : List ℕ) → parseHex f (hexByte x ∷ s) ≡ f x s
   unfolding parseHex caseAt
-  hex-parsed (G.digit x) f s = by-case 0 _ _ refl x s
-  hex-parsed (G.upper x) f s = by-case 1 _ _ refl x s
-  hex-parsed (G.lower x) f s = by-case 2 _ _ refl x s
+  hex-parsed (H.digit x) f s = by-case 0 _ _ refl x s
+  hex-parsed (H.upper x) f s = by-case 1 _ _ refl x s
+  hex-parsed (H.lower x) f s = by-case 2 _ _ refl x s
 
   unicode-parsed : (x y z w : Hex) (f : Char → Parser A) (s : List ℕ) →
       parseUnicode f (hexByte x ∷ hexByte y ∷ hexByte z ∷ hexByte w ∷ s) ≡ f (G.unicode x y z w) s

@@ -11,11 +11,13 @@ use Rattle.bits.specs.Truth.{to-T}
 use Rattle.encoding.specs.Bytes as B
 use Rattle.encoding.specs.Bytes.{In, putIn, Blank, Blanks, blankByte, putBlanks}
 use Rattle.encoding.specs.BytesLaws.{Then, then}
+use Rattle.encoding.specs.Hex as H
+use Rattle.encoding.specs.Hex.{Hex, hexByte}
 use Rattle.encoding.specs.Utf8 as U
 use Rattle.encoding.specs.Utf8.{anyTail, afterE0, afterED, afterF0, afterF4, secondLow, secondHigh}
 use Rattle.encoding.specs.Utf8Laws.{Tails}
 use Rattle.json.specs.Grammar as G
-use Rattle.json.specs.Grammar.{Digit, Int, Frac, Exp, ExpSign, E, eByte, Escape, escapeByte, Hex, hexByte}
+use Rattle.json.specs.Grammar.{Digit, Int, Frac, Exp, ExpSign, E, eByte, Escape, escapeByte}
 use Rattle.json.specs.Grammar.{Char, Kind, array, object, opening, closing, Key, Value, More}
 use Rattle.json.specs.Grammar.{putInt, putFrac, putExp, putExpSign, putChars, putKey, putValue, putMore, text, nesting, moreNesting}
 use Rattle.json.specs.Room.{Room, left, endless, wider}
@@ -298,7 +300,7 @@ in-range : {lo hi : ℕ} {L : List ℕ → Type 0} (b : In lo hi) (s : List ℕ)
 in-range b s r = then b r
 
 back-hex : (c : Ctl) (k : Stack) (ρ : Room) → Backs (ThenHex (Rest c k ρ)) k ρ (hexRules c)
-back-hex c k ρ = ((λ b s r. thenHex (G.digit b) r), ((λ b s r. thenHex (G.upper b) r), ((λ b s r. thenHex (G.lower b) r), tt)))
+back-hex c k ρ = ((λ b s r. thenHex (H.digit b) r), ((λ b s r. thenHex (H.upper b) r), ((λ b s r. thenHex (H.lower b) r), tt)))
 
 letter : {k : Stack} {ρ : Room} {w : List ℕ} (n : ℕ) (s : List ℕ) → WordRest k ρ w s → WordRest k ρ (n ∷ w) (n ∷ s)
 letter n s (letters a) = letters a

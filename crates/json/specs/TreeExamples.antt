@@ -3,6 +3,7 @@ use mathlib.Core.Path.{_≡_, refl}
 use mathlib.Core.List.{List, [], _∷_}
 use mathlib.Core.Option.{some, none}
 use Rattle.encoding.specs.Bytes as B
+use Rattle.encoding.specs.Hex as H
 use Rattle.encoding.specs.Utf8 as U
 use Rattle.json.specs.Grammar as G
 use Rattle.json.specs.Grammar.{Char, Name, Value, Tree}
@@ -52,10 +53,10 @@ code-point : treeOf (0x22 ∷ 0xC3 ∷ 0xA9 ∷ 0x5C ∷ 0x75 ∷ 0x30 ∷ 0x30 
     (G.string
     (G.wide (U.c2-df (record { byte = 0xC3; ok = tt }) (record { byte = 0xA9; ok = tt })) ∷
     G.unicode
-    (G.digit (record { byte = 0x30; ok = tt }))
-    (G.digit (record { byte = 0x30; ok = tt }))
-    (G.lower (record { byte = 0x65; ok = tt }))
-    (G.digit (record { byte = 0x39; ok = tt })) ∷ [])))
+    (H.digit (record { byte = 0x30; ok = tt }))
+    (H.digit (record { byte = 0x30; ok = tt }))
+    (H.lower (record { byte = 0x65; ok = tt }))
+    (H.digit (record { byte = 0x39; ok = tt })) ∷ [])))
 unfolding treeOf
 code-point = refl
 

@@ -5,7 +5,7 @@ use mathlib.Core.Option.{Option, some, none}
 use Prim.Native.Nat as N
 use Prim.Native.Nat.{ℕ, suc}
 use lib.ListN.{length}
-use Rattle.encoding.specs.Bytes.{sameBytes}
+use Rattle.encoding.specs.Bytes.{sameNumbers}
 use Rattle.json.specs.Grammar as G
 use Rattle.json.specs.Grammar.{Kind, Key, closing, Value, Items, More, Tree, text}
 use Rattle.json.specs.Parse.{Got, Parser, got, fail, on, only, choose, pick, parseBy, parseIn, parseByte, parseBytes, many, blankOf, parseBlanks}
@@ -60,7 +60,7 @@ ifSame false t = none
 
 abbrev pub ifText : List ℕ → Got Tree → Option Tree
 ifText s none = none
-ifText s (some p) = ifSame (sameBytes (text (p .0)) s) (p .0)
+ifText s (some p) = ifSame (sameNumbers (text (p .0)) s) (p .0)
 
 -- the tree that s is the text of
 unfoldable pub treeOf : List ℕ → Option Tree
@@ -68,5 +68,5 @@ unfolding
     choose pick parseBy parseIn parseByte parseBytes many blankOf parseBlanks
     digitOf parseDigits parseSomeDigits parseMinus parseInt parseFrac parseExpSign parsePower parseExp parseNumber
     parseHex parseUnicode parseEscape charCases parseChars parseRest parseColon parseKey
-    parseItem parseItems parseMore parseContainer parseValue parsers parseEnd parseTree sameBytes text
+    parseItem parseItems parseMore parseContainer parseValue parsers parseEnd parseTree sameNumbers text
 treeOf s = ifText s (parseTree s)

@@ -9,8 +9,8 @@ use Prim.Native.Nat.{ℕ, suc, _≤_}
 use native.Mathlib.Omega.{arith}
 use lib.ListN.{length}
 use Rattle.encoding.specs.Bytes as B
-use Rattle.encoding.specs.Bytes.{In, putIn, Blanks, putBlanks, sameBytes}
-use Rattle.encoding.specs.BytesLaws.{make, in-bounds, length-blanks, same-bytes}
+use Rattle.encoding.specs.Bytes.{In, putIn, Blanks, putBlanks, sameNumbers}
+use Rattle.encoding.specs.BytesLaws.{make, in-bounds, length-blanks, same-numbers}
 use Rattle.json.specs.Grammar as G
 use Rattle.json.specs.Grammar.{Literal, Minus, Int, Char, Kind, Key, opening, closing, Value, Items, More, Tree, JsonText}
 use Rattle.json.specs.Grammar.{putLiteral, putMinus, putInt, putFrac, putExp, putString, putKey, putValue, putItems, putMore, text}
@@ -211,21 +211,21 @@ tree-back t =
 
 pub treeOf-text : (t : Tree) → treeOf (text t) ≡ some t
 unfolding treeOf
-treeOf-text t = ap (ifText (text t)) (tree-back t) ∙ ap (λ (b : Bool). ifSame b t) (same-bytes (text t) (text t) .1 refl)
+treeOf-text t = ap (ifText (text t)) (tree-back t) ∙ ap (λ (b : Bool). ifSame b t) (same-numbers (text t) (text t) .1 refl)
 
 pub treeOf-sound : (s : List ℕ) (t : Tree) → treeOf s ≡ some t → text t ≡ s
 unfolding treeOf
 treeOf-sound s t e = sound (parseTree s) e
   where
-    same : (u : Tree) (b : Bool) → sameBytes (text u) s ≡ b → ifSame b u ≡ some t → text t ≡ s
+    same : (u : Tree) (b : Bool) → sameNumbers (text u) s ≡ b → ifSame b u ≡ some t → text t ≡ s
     same u true h e =
         let q : u ≡ t = cc in
-        rw (← q) (same-bytes (text u) s .0 h)
+        rw (← q) (same-numbers (text u) s .0 h)
     same u false h e = absurd (Option·none-ne-some _ e)
 
     sound : (o : Got Tree) → ifText s o ≡ some t → text t ≡ s
     sound none e = absurd (Option·none-ne-some _ e)
-    sound (some p) e = same (p .0) (sameBytes (text (p .0)) s) refl e
+    sound (some p) e = same (p .0) (sameNumbers (text (p .0)) s) refl e
 
 -- a text has one tree
 pub unambiguous : (t t′ : Tree) → text t ≡ text t′ → t ≡ t′

@@ -24,16 +24,16 @@ use Rattle.automaton.specs.Tally.{Tally, tallied}
 use Rattle.automaton.specs.Halves.{finish}
 use Rattle.walk.specs.Ahead.{valueAt}
 use Rattle.walk.specs.AheadLaws as A
-use Rattle.walk.specs.Labels.{labelBy, label-is}
+use Rattle.walk.specs.Labels.{LabelBy, label-is}
 use Rattle.pile.specs.Pile.{Pile, pile, kindAt, ValuePassed, root, item, ItemDue, ValueDue}
 use Rattle.pile.specs.PileLaws.{passed-sized, passed-counted, at-position, level-counted, popped}
 use Rattle.pile.specs.Moves.{Pops, CountsOn}
 
 -- an item is ahead; its value stands at v, its name from a to e
-module _ {q : List ℕ} {kinds : Kinds} {ops : List ℕ} {x : List Step} (holds : Holds q x kinds ops) {s : List ℕ} {whole : Tally} {z : Pile}
-    {i : ℕ} {t : Tally} {d f m : ℕ} {b : Bool} {j v a e m′ : ℕ} {p : Bool} (due : ItemDue x s whole z i t d f m)
+module _ {names : List ℕ} {kinds : Kinds} {ops : List ℕ} {x : List Step} (holds : Holds names x kinds ops) {s : List ℕ} {whole : Tally} {z : Pile}
+    {i : ℕ} {t : Tally} {d f m : ℕ} {b : Bool} {j v a e m′ : ℕ} {p escaped : Bool} (due : ItemDue x s whole z i t d f m)
     (object : b ≡ eqb (getD (z .brackets) (d - 1) 0) 0x7B) (index : j ≡ getD (z .counts) (d - 1) 0)
-    (enters : EntersItem s i b v a e) (advances : Advances q kinds ops m (labelBy b (slice a e s) j) m′ p) where
+    (enters : EntersItem s i b v a e escaped) (advances : (l : Label) → LabelBy (slice a e s) j b l → Advances names kinds ops m l m′ p) where
   top-is : d - 1 ≡ due .o .depth
   top-is = omega (arith, due .level .depth)
 
@@ -54,11 +54,11 @@ module _ {q : List ℕ} {kinds : Kinds} {ops : List ℕ} {x : List Step} (holds 
       let here = A.value-here (next x) s (o .rest) k (o .state) (o .room) (o .inner) (o .end) i (o .count) t y in
       let rest = putMore (y .m) (o .rest) in
       let l = labelOf k (y .key) (o .count) in
-      let g = subst (λ (n : Bool). EntersItem s i n v a e) object-is enters .exact (y .w) (y .key) (putValue (y .v) rest) (y .here)
+      let g = subst (λ (n : Bool). EntersItem s i n v a e escaped) object-is enters .exact (y .w) (y .key) (putValue (y .v) rest) (y .here)
       (A.key-solid (next x) s (o .rest) k (o .state) (o .room) (o .inner) (o .end) i (o .count) t y) in
-      let label : labelBy b (slice a e s) j ≡ l =
-      ap₂ (λ (n : Bool) (h : ℕ). labelBy n (slice a e s) h) object-is index-is ∙ label-is s (eqb (o .bracket) 0x7B) (y .key) (o .count) a e (g .1) in
-      let moves = subst (λ (n : Label). Advances q kinds ops m n m′ p) label advances in
+      let labelled : LabelBy (slice a e s) j b l =
+      rw (object-is, index-is) (label-is s (eqb (o .bracket) 0x7B) (y .key) (o .count) a e (g .1)) in
+      let moves = advances l labelled in
       let goal : Tally = tallied t (visits (next x) (y .v) (next x (o .state) l) v) in
       let marks : m′ ≡ nextMarks x (o .state .marks) l = moves .marks-are x holds ∙ ap (λ (n : ℕ). nextMarks x n l) (due .level .marks) in
       let picked : p ≡ nextPicked x (o .state .marks) l = moves .picked-is x holds ∙ ap (λ (n : ℕ). nextPicked x n l) (due .level .marks) in

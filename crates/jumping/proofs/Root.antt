@@ -90,8 +90,8 @@ starts b r =
           };
     }
 
-pub root-comes : {q : List ℕ} {kinds : Kinds} {ops : List ℕ} {x : List Step} {s list : List ℕ} {whole : Tally} {z : Pile} {a : Standing} → Holds q x kinds ops
-    → Due x s whole z list a → a .item ≡ true → a .depth ≡ 0
+pub root-comes : {names : List ℕ} {kinds : Kinds} {ops : List ℕ} {x : List Step} {s list : List ℕ} {whole : Tally} {z : Pile} {a : Standing}
+    → Holds names x kinds ops → Due x s whole z list a → a .item ≡ true → a .depth ≡ 0
     → ValueDue x s whole z (a .at) (tallyAt list a) (a .marks) (eqb (kinds .count) 0) (a .depth) (a .frames) (a .marks)
 root-comes h d e f = rw (h .count) (d .root e f)
 
@@ -125,14 +125,14 @@ module _ {n : ℕ} {r : Standing} (a : Standing) (h : a .at ≤ n) (y : Onward n
       go false = omega (arith, y .within)
 
 -- what was ahead where the turns began still is
-pub record Running (q : List ℕ) (kinds : Kinds) (ops s : List ℕ) (z₀ : Pile) (list₀ : List ℕ) (a₀ : Standing) (z : Pile) (list : List ℕ) (a : Standing)
-    : Type 0 where
+pub record Running (names : List ℕ) (kinds : Kinds) (ops s : List ℕ) (z₀ : Pile) (list₀ : List ℕ) (a₀ : Standing) (z : Pile) (list : List ℕ)
+    (a : Standing) : Type 0 where
   pub size-is : length list ≡ length list₀
   pub inside : a .at ≤ length s
   pub in-container : a .item ≡ false → a .depth ≡ 0 → ⊥
   pub room : a .depth ≤ maxDepth
   pub few : a .frames ≤ maxDepth
-  pub keeps : (x : List Step) → Holds q x kinds ops → (whole : Tally) → Due x s whole z₀ list₀ a₀ → Due x s whole z list a
+  pub keeps : (x : List Step) → Holds names x kinds ops → (whole : Tally) → Due x s whole z₀ list₀ a₀ → Due x s whole z list a
 
 -- nothing is ahead once the root is passed
 passed-whole : {x : List Step} {s : List ℕ} {whole : Tally} {z : Pile} {i : ℕ} {t : Tally} {d f m : ℕ}
@@ -140,8 +140,8 @@ passed-whole : {x : List Step} {s : List ℕ} {whole : Tally} {z : Pile} {i : �
 passed-whole e (root h e1 e2 e3) = e3
 passed-whole e (item o l a p) = absurd (omega (arith, l .depth))
 
-pub running-starts : {q : List ℕ} {kinds : Kinds} {ops s list : List ℕ} {z : Pile} {n : ℕ} {a : Standing} → BeforeRoot s n a
-    → Running q kinds ops s z list a z list a
+pub running-starts : {names : List ℕ} {kinds : Kinds} {ops s list : List ℕ} {z : Pile} {n : ℕ} {a : Standing} → BeforeRoot s n a
+    → Running names kinds ops s z list a z list a
 running-starts y =
     record {
       size-is = refl;
@@ -152,9 +152,9 @@ running-starts y =
       keeps = λ x h whole d. d;
     }
 
-module _ {q : List ℕ} {kinds : Kinds} {ops s : List ℕ} {z₀ z z′ : Pile} {list₀ list list′ : List ℕ} {a₀ a r : Standing}
-    (before : Running q kinds ops s z₀ list₀ a₀ z list a) (turn : Turns q kinds ops s z z′ list list′ a r) where
-  pub running-on : length list′ ≡ length list → (r .depth ≡ 0 → ⊥) → Running q kinds ops s z₀ list₀ a₀ z′ list′ r
+module _ {names : List ℕ} {kinds : Kinds} {ops s : List ℕ} {z₀ z z′ : Pile} {list₀ list list′ : List ℕ} {a₀ a r : Standing}
+    (before : Running names kinds ops s z₀ list₀ a₀ z list a) (turn : Turns names kinds ops s z z′ list list′ a r) where
+  pub running-on : length list′ ≡ length list → (r .depth ≡ 0 → ⊥) → Running names kinds ops s z₀ list₀ a₀ z′ list′ r
   running-on e n =
       record {
         size-is = e ∙ before .size-is;
@@ -166,7 +166,7 @@ module _ {q : List ℕ} {kinds : Kinds} {ops s : List ℕ} {z₀ z z′ : Pile} 
       }
 
   -- the root has been passed
-  pub walk-ends : BeforeRoot s (kinds .count) a₀ → Sized z₀ → r .depth ≡ 0 → Walks q kinds ops s list₀ list′ (r .used) (r .peak) (r .stop)
+  pub walk-ends : BeforeRoot s (kinds .count) a₀ → Sized z₀ → r .depth ≡ 0 → Walks names kinds ops s list₀ list′ (r .used) (r .peak) (r .stop)
   walk-ends y h e =
       record {
         counts = λ x held t f n.

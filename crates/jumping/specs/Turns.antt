@@ -31,10 +31,10 @@ pub record BeforeRoot (s : List ℕ) (count : ℕ) (r : Standing) : Type 0 where
       → Due x s (tallied (fresh list) (nodeVisits (next x) (root t) (start x))) z list r
 
 -- the first byte of the value ahead, its marks, and whether it is picked out
-pub record Comes (q : List ℕ) (kinds : Kinds) (operands s brackets counts : List ℕ) (a : Standing) (r : Coming) : Type 0 where
+pub record Comes (names : List ℕ) (kinds : Kinds) (operands s brackets counts : List ℕ) (a : Standing) (r : Coming) : Type 0 where
   pub onward : a .at ≤ r .at
   pub within : r .at ≤ length s
-  pub due : (x : List Step) → Holds q x kinds operands → (whole : Tally) (levels held waits list : List ℕ)
+  pub due : (x : List Step) → Holds names x kinds operands → (whole : Tally) (levels held waits list : List ℕ)
       → Due x s whole (pile levels held waits brackets counts) list a
       → ValueDue x s whole (pile levels held waits brackets counts) (r .at) (tallyAt list a) (r .marks) (r .picked) (a .depth) (a .frames) (a .marks)
 
@@ -52,10 +52,10 @@ turnsLeft n i true = 2 * (n + 1 - i) + 1
 turnsLeft n i false = 2 * (n + 1 - i)
 
 -- one step
-pub record Turns (q : List ℕ) (kinds : Kinds) (operands s : List ℕ) (z z′ : Pile) (list list′ : List ℕ) (a r : Standing) : Type 0 where
+pub record Turns (names : List ℕ) (kinds : Kinds) (operands s : List ℕ) (z z′ : Pile) (list list′ : List ℕ) (a r : Standing) : Type 0 where
   pub fewer : turnsLeft (length s) (r .at) (r .item) < turnsLeft (length s) (a .at) (a .item)
   pub inside : (r .depth ≡ 0 → ⊥) → r .at ≤ length s
   pub in-container : r .item ≡ true → r .depth ≡ 0 → ⊥
   pub room : r .depth ≤ maxDepth
   pub few : r .frames ≤ maxDepth
-  pub keeps : (x : List Step) → Holds q x kinds operands → (whole : Tally) → Due x s whole z list a → Due x s whole z′ list′ r
+  pub keeps : (x : List Step) → Holds names x kinds operands → (whole : Tally) → Due x s whole z list a → Due x s whole z′ list′ r

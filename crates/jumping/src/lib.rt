@@ -6,7 +6,9 @@ use leap::KEPT;
 use leap::none_kept;
 use marks::advance;
 use marks::taking_element;
+use marks::taking_escaped;
 use marks::taking_member;
+use names::Names;
 use pairs::Counts;
 use pile::Coming;
 use pile::Standing;
@@ -71,7 +73,7 @@ fn wide(x: u32) -> usize
 
 // The value ahead: the root, or that of the next item of the innermost container, with the marks that its label leads to.
 fn coming(
-    query: &[u8],
+    names: &Names,
     kinds: Kinds,
     operands: &[u64; 16],
     record: &[u8],
@@ -79,10 +81,10 @@ fn coming(
     brackets: &[u8; MAX_DEPTH],
     counts: &[u32; MAX_DEPTH],
 ) -> Coming
-    requires { ⌜ Fits (now query) kinds (now operands) ⌝ }
+    requires { ⌜ Fits kinds (now operands) ⌝ }
     requires { ⌜ a .at ≤ length (now «record») ⌝ }
     requires { ⌜ (a .item ≡ true) × (a .depth ≤ maxDepth) ⌝ }
-    ensures { λ r. ⌜ Comes (now (query .entry)) kinds (now (operands .entry)) (now («record» .entry)) (now (brackets .entry))
+    ensures { λ r. ⌜ Comes (now (names .entry)) kinds (now (operands .entry)) (now («record» .entry)) (now (brackets .entry))
         (now (counts .entry)) a r ⌝ }
 {
     let at = a.at;
@@ -100,7 +102,21 @@ fn coming(
     let from = item.from;
     let to = item.to;
     let hits = if object {
-        taking_member(query, kinds, operands, marks, record, from, to)
+        if item.escaped {
+            taking_escaped(
+                names,
+                operands,
+                kinds.every,
+                kinds.named,
+                kinds.count,
+                marks,
+                record,
+                from,
+                to,
+            )
+        } else {
+            taking_member(names, kinds, operands, marks, record, from, to)
+        }
     } else {
         taking_element(kinds, operands, marks, wide(counts[top]))
     };
@@ -165,7 +181,7 @@ fn past(
 // One step: past the value ahead or into it, or on from a value that has been passed.
 fn turn(
     classes: &[u8; 256],
-    query: &[u8],
+    names: &Names,
     kinds: Kinds,
     operands: &[u64; 16],
     record: &[u8],
@@ -179,11 +195,11 @@ fn turn(
     block: &mut [u64; KEPT],
 ) -> Standing
     requires { ⌜ ClassTable (now classes) ⌝ }
-    requires { ⌜ Fits (now query) kinds (now operands) ⌝ }
+    requires { ⌜ Fits kinds (now operands) ⌝ }
     requires { ⌜ (length (now «record») ≤ maxBytes) × (a .at ≤ length (now «record»)) ⌝ }
     requires { ⌜ (a .depth ≤ maxDepth) × (a .frames ≤ maxDepth) × (a .item ≡ false → a .depth ≡ 0 → ⊥) ⌝ }
     requires { ⌜ Kept (now «record») (now block) ⌝ }
-    ensures { λ r. ⌜ Turns (now (query .entry)) kinds (now (operands .entry)) (now («record» .entry))
+    ensures { λ r. ⌜ Turns (now (names .entry)) kinds (now (operands .entry)) (now («record» .entry))
         (pile (now (levels .entry)) (now (held .entry)) (now (waits .entry)) (now (brackets .entry)) (now (counts .entry)))
         (pile (now (levels .exit)) (now (held .exit)) (now (waits .exit)) (now (brackets .exit)) (now (counts .exit)))
         (now (list .entry)) (now (list .exit)) a r ⌝ }
@@ -192,7 +208,7 @@ fn turn(
     if !a.item {
         return past(record, a, list, levels, held, waits, counts);
     }
-    let v = coming(query, kinds, operands, record, a, brackets, counts);
+    let v = coming(names, kinds, operands, record, a, brackets, counts);
     value(
         classes,
         record,
@@ -210,10 +226,11 @@ fn turn(
 
 // Lists the nodes of a checked record that a query picks out, and counts frames, by the jumping walk: what the list holds and the counts
 // are the tally of all nodes. Where the list has too few pairs it holds the first nodes, and the walk says where the first one left over is.
-pub fn walk_jumping(query: &[u8], steps: Compiled, record: &[u8], list: &mut [u32]) -> Counts
-    requires { ⌜ Fits (now query) (steps .kinds) (steps .operands) ⌝ }
+pub fn walk_jumping(names: &Names, steps: Compiled, record: &[u8], list: &mut [u32]) -> Counts
+    requires { ⌜ Fits (steps .kinds) (steps .operands) ⌝ }
     requires { ⌜ length (now «record») ≤ maxBytes ⌝ }
-    ensures { λ r. ⌜ Walks (now (query .entry)) (steps .kinds) (steps .operands) (now («record» .entry)) (now (list .entry)) (now (list .exit)) (r .used) (r .peak) (r .stop) ⌝ }
+    ensures { λ r. ⌜ Walks (now (names .entry)) (steps .kinds) (steps .operands) (now («record» .entry)) (now (list .entry)) (now (list .exit))
+        (r .used) (r .peak) (r .stop) ⌝ }
 {
     let classes = classes();
     let kinds = steps.kinds;
@@ -228,7 +245,7 @@ pub fn walk_jumping(query: &[u8], steps: Compiled, record: &[u8], list: &mut [u3
     loop {
         a = turn(
             &classes,
-            query,
+            names,
             kinds,
             &operands,
             record,

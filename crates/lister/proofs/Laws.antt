@@ -15,8 +15,8 @@ use Rattle.validate.specs.Checks.{Answers}
 use Rattle.validate.specs.declared.Checked.{Checked}
 use Rattle.lister.specs.Answers.{Admits, concluded}
 
-module _ (q r : List ℕ) {o : Outcome} (read : QueryRead q o) where
-  pub query-refused : (o .ground ≡ 0 → ⊥) → Admits q r (record { ground = o .ground; place = o .place; steps = o .steps })
+module _ (q r names : List ℕ) {o : Outcome} (read : QueryRead q names o) where
+  pub query-refused : (o .ground ≡ 0 → ⊥) → Admits q r names (record { ground = o .ground; place = o .place; steps = o .steps })
   query-refused h =
       record {
         refuses = λ n l. lists-query q r l (o .ground) (o .place) (read .ground) (read .place) h;
@@ -30,10 +30,10 @@ module _ (q r : List ℕ) {o : Outcome} (read : QueryRead q o) where
     query-taken : queryVerdict q .ground ≡ 0
     query-taken = sym (read .ground) ∙ z
 
-    held : Holds q (stepsIn q) (o .steps .kinds) (o .steps .operands)
+    held : Holds names (stepsIn q) (o .steps .kinds) (o .steps .operands)
     held = rw query-taken at (read .steps)
 
-    pub record-checked : Admits q r (record { ground = v .ground; place = v .place; steps = o .steps })
+    pub record-checked : Admits q r names (record { ground = v .ground; place = v .place; steps = o .steps })
     record-checked =
         record {
           refuses = λ n l. lists-record q r l (v .ground) (v .place) query-taken (checked .ground-is) (checked .place-is) n;

@@ -10,13 +10,14 @@ use Rattle.pairs.specs.declared.Counts.{Counts}
 use Rattle.lister.specs.declared.Answer.{Answer}
 use Rattle.lister.specs.declared.Input.{Input}
 
--- a ground and its place are a lister's answer, which leaves any list as it was; without a ground query and record are taken
-pub record Admits (q r : List ℕ) (x : Input) : Type 0 where
+-- a ground and its place are a lister's answer, which leaves any list as it was; without a ground query and record are taken, and the
+-- query's steps are held, with their names
+pub record Admits (q r names : List ℕ) (x : Input) : Type 0 where
   pub refuses : (x .ground ≡ 0 → ⊥) → (l : List ℕ) → Lists q r l l (x .ground) (x .place) 0 0
   pub place-small : x .place ≤ maxBytes
   pub query-taken : x .ground ≡ 0 → queryVerdict q .ground ≡ 0
   pub record-taken : x .ground ≡ 0 → recordVerdict r .ground ≡ 0
-  pub steps-are : x .ground ≡ 0 → Holds q (stepsIn q) (x .steps .kinds) (x .steps .operands)
+  pub steps-are : x .ground ≡ 0 → Holds names (stepsIn q) (x .steps .kinds) (x .steps .operands)
 
 abbrev pub refusal : (ground place : ℕ) → Answer
 refusal g p = record { ground = g; place = p; pairs = 0; peak = 0 }

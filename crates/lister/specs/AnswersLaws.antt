@@ -24,14 +24,14 @@ use Rattle.lister.specs.Listed.{Listed}
 use Rattle.lister.specs.declared.Answer.{Answer}
 use Rattle.lister.specs.declared.Input.{Input}
 
-module _ {q r : List ℕ} {x : Input} (admitted : Admits q r x) where
+module _ {q r names : List ℕ} {x : Input} (admitted : Admits q r names x) where
   -- refused
   pub listed-none : {l : List ℕ} {a : Answer} → (x .ground ≡ 0 → ⊥) → a ≡ refusal (x .ground) (x .place) → Listed q r l l a
   listed-none {l} h e = rw e (admitted .refuses h l)
 
-  -- taken: the names lie in the query, and the record has a tree within the limits
+  -- taken: the names lie where a query can have them, and the record has a tree within the limits
   module _ (z : x .ground ≡ 0) where
-    pub fits : Fits q (x .steps .kinds) (x .steps .operands)
+    pub fits : Fits (x .steps .kinds) (x .steps .operands)
     fits = admitted .steps-are z .fits
 
     the-tree : Tree
@@ -45,7 +45,8 @@ module _ {q r : List ℕ} {x : Input} (admitted : Admits q r x) where
     record-short = the-record .bytes
 
     -- a walk over both
-    module _ {l after : List ℕ} {c : Counts} (walked : Walks q (x .steps .kinds) (x .steps .operands) r l after (c .used) (c .peak) (c .stop)) where
+    module _ {l after : List ℕ} {c : Counts}
+        (walked : Walks names (x .steps .kinds) (x .steps .operands) r l after (c .used) (c .peak) (c .stop)) where
       whole : Whole (stepsIn q) the-tree l (tally after (c .used) (c .peak) (c .stop))
       whole =
           rw (walked .counts (stepsIn q) (admitted .steps-are z) the-tree (the-record .written) (the-record .levels)) at

@@ -1,4 +1,5 @@
 // What both listers share: the grounds of refusal before the walk, and the answer after it.
+use names::Names;
 use pairs::Counts;
 use query_parser::Compiled;
 ghost use mathlib.Core.Path.{_≡_};
@@ -24,11 +25,12 @@ pub struct Input {
 
 const LEFT_OVER: u32 = 7;
 
-// Reads the query and checks the record: the first of grounds 1 to 6 that fits, or the steps of a query that can be walked for.
-pub fn admit(query: &[u8], record: &[u8]) -> Input
-    ensures { λ r. ⌜ Admits (now (query .entry)) (now («record» .entry)) r ⌝ }
+// Reads the query and checks the record: the first of grounds 1 to 6 that fits, or the steps of a query that can be walked for, with
+// their names decoded.
+pub fn admit(query: &[u8], record: &[u8], names: &mut Names) -> Input
+    ensures { λ r. ⌜ Admits (now (query .entry)) (now («record» .entry)) (now (names .exit)) r ⌝ }
 {
-    let read = query_parser::read_query(query);
+    let read = query_parser::read_query(query, names);
     let steps = read.steps;
     if read.ground != 0 {
         return Input {

@@ -11,7 +11,7 @@ use lib.Dec.{ltb, eqb}
 use lib.Seq.{slice}
 use Rattle.bits.specs.Bits.{bit, Lowest}
 use Rattle.bits.specs.Laws.{lt-or-ge, bit-zero, bit-test, bit-shr}
-use Rattle.encoding.specs.Bytes.{sameBytes}
+use Rattle.encoding.specs.Bytes.{sameNumbers}
 use Rattle.query_parser.specs.Holds.{nameStart, nameEnd}
 use Rattle.select.specs.Ways.{frameIf}
 use Rattle.marks.specs.Advances.{isName}
@@ -36,9 +36,10 @@ module _ (m i x : ℕ) (shift : x ≡ bitAnd (m / 2 ^ i) 1) where
   hit-on asked f = sym (ap (λ (b : Bool). b && asked) (mark-on f))
 
 -- a name by its bounds
-pub by-bounds : (q name : List ℕ) (w from to : ℕ) → from ≡ nameStart w → to ≡ nameEnd w → sameBytes (slice from to q) name ≡ isName q w name
+pub by-bounds : (names bytes : List ℕ) (w from to : ℕ) → from ≡ nameStart w → to ≡ nameEnd w
+    → sameNumbers (slice from to names) bytes ≡ isName names w bytes
 unfolding isName
-by-bounds q name w from to a b = ap₂ (λ (x y : ℕ). sameBytes (slice x y q) name) a b
+by-bounds names bytes w from to a b = ap₂ (λ (x y : ℕ). sameNumbers (slice x y names) bytes) a b
 
 -- the bits below i are what f says of the steps, and none is on from i
 pub record Upto (f : ℕ → Bool) (count h i : ℕ) : Type 0 where

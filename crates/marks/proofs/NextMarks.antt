@@ -15,7 +15,9 @@ use lib.Pow.{shl-exact, pow-pos, pow-mono}
 use Rattle.bits.specs.Bits.{bit, number}
 use Rattle.bits.specs.Laws.{lt-or-ge, bit-and, bit-or, bit-zero, bit-shl, bit-test, number-of, shifted}
 use Rattle.bits.specs.Truth.{truth}
-use Rattle.encoding.specs.Bytes.{sameBytes}
+use Rattle.encoding.specs.Bytes.{sameNumbers}
+use Rattle.encoding.specs.PointsLaws.{same-utf8}
+use Rattle.encoding.specs.Points.{Utf8Of}
 use Rattle.query_parser.specs.Holds.{Holds, everyAt, namedAt, positionedAt, nameAt, positionAt}
 use Rattle.query.specs.Steps as S
 use Rattle.query.specs.Steps.{Step, Selector, isDeep}
@@ -42,7 +44,7 @@ hits-element j (some s) = go (s .selector)
     go S.every = refl
     go (S.position i) = refl
 
-hits-member : (w : List ℕ) (o : Option Step) → (everyAt o || (namedAt o && sameBytes (nameAt o) w)) ≡ stepHits o (member w)
+hits-member : (w : List ℕ) (o : Option Step) → (everyAt o || (namedAt o && sameNumbers (nameAt o) w)) ≡ stepHits o (member w)
 unfolding stepHits hits
 hits-member w none = refl
 hits-member w (some s) = go (s .selector)
@@ -50,13 +52,13 @@ hits-member w (some s) = go (s .selector)
     by : Selector → Option Step
     by sel = some (record { deep = s .deep; selector = sel })
 
-    go : (sel : Selector) → (everyAt (by sel) || (namedAt (by sel) && sameBytes (nameAt (by sel)) w)) ≡ hits sel (member w)
+    go : (sel : Selector) → (everyAt (by sel) || (namedAt (by sel) && sameNumbers (nameAt (by sel)) w)) ≡ hits sel (member w)
     go (S.name v) = refl
     go S.every = refl
     go (S.position i) = refl
 
 -- a label that is taken by `*`, and by those steps of one kind that pass a test
-module _ {q : List ℕ} {x : List Step} {k : Kinds} {operands : List ℕ} (h : Holds q x k operands) (m mask : ℕ) (l : Label)
+module _ {names : List ℕ} {x : List Step} {k : Kinds} {operands : List ℕ} (h : Holds names x k operands) (m mask : ℕ) (l : Label)
     (kind test : Option Step → Bool) (no-kind : kind none ≡ false) (masked : (i : ℕ) → bit i mask ≡ kind (getElem? x i))
     (hit : (o : Option Step) → (everyAt o || (kind o && test o)) ≡ stepHits o l) where
   by-either : (i : ℕ) (b : Bool) → b ≡ (bit i m && (kind (getElem? x i) && test (getElem? x i)))
@@ -101,35 +103,35 @@ module _ {q : List ℕ} {x : List Step} {k : Kinds} {operands : List ℕ} (h : H
           ap (λ (b : Bool). b && (bit i (bitAnd m mask) && f i)) (le-ltb i (k .count) n)
           ∙ sym (ap (λ (b : Bool). bit i m && (b && test (getElem? x i))) none-there ∙ and-false (bit i m))
 
-module _ (q : List ℕ) (k : Kinds) (operands : List ℕ) (m : ℕ) where
-  module _ (name : List ℕ) where
+module _ (names : List ℕ) (k : Kinds) (operands : List ℕ) (m : ℕ) where
+  module _ (points : List ℕ) where
     abbrev same : Option Step → Bool
-    same o = sameBytes (nameAt o) name
+    same o = sameNumbers (nameAt o) points
 
-    pub member-every : bitAnd m (k .named) ≡ 0 → Taken q k operands m (member name) (bitAnd m (k .every))
+    pub member-every : bitAnd m (k .named) ≡ 0 → Taken names k operands m (member points) (bitAnd m (k .every))
     member-every z =
-        record { taken = λ x h. by-every h m (k .named) (member name) namedAt same refl (h .named) (hits-member name) z }
+        record { taken = λ x h. by-every h m (k .named) (member points) namedAt same refl (h .named) (hits-member points) z }
 
-    pub member-named : (r : ℕ) → Chosen (k .count) (bitAnd m (k .named)) (nameIs q operands name) r
-        → Taken q k operands m (member name) (bitOr (bitAnd m (k .every)) r)
+    pub member-named : (bytes : List ℕ) (r : ℕ) → Utf8Of bytes points → Chosen (k .count) (bitAnd m (k .named)) (nameIs names operands bytes) r
+        → Taken names k operands m (member points) (bitOr (bitAnd m (k .every)) r)
     unfolding nameIs isName
-    member-named r chosen =
+    member-named bytes r is chosen =
         record {
           taken = λ x h.
-              by-test h m (k .named) (member name) namedAt same refl (h .named) (hits-member name) (nameIs q operands name) r
-              (λ i on. ap (λ (w : List ℕ). sameBytes w name) (h .name i on)) chosen;
+              by-test h m (k .named) (member points) namedAt same refl (h .named) (hits-member points) (nameIs names operands bytes) r
+              (λ i on. same-utf8 (h .name i on) is) chosen;
         }
 
   module _ (j : ℕ) where
     abbrev there : Option Step → Bool
     there o = eqb (positionAt o) j
 
-    pub element-every : bitAnd m (k .positioned) ≡ 0 → Taken q k operands m (element j) (bitAnd m (k .every))
+    pub element-every : bitAnd m (k .positioned) ≡ 0 → Taken names k operands m (element j) (bitAnd m (k .every))
     element-every z =
         record { taken = λ x h. by-every h m (k .positioned) (element j) positionedAt there refl (h .positioned) (hits-element j) z }
 
     pub element-positioned : (r : ℕ) → Chosen (k .count) (bitAnd m (k .positioned)) (positionIs operands j) r
-        → Taken q k operands m (element j) (bitOr (bitAnd m (k .every)) r)
+        → Taken names k operands m (element j) (bitOr (bitAnd m (k .every)) r)
     unfolding positionIs
     element-positioned r chosen =
         record {
@@ -143,9 +145,9 @@ pub live-kind : (m mask i : ℕ) → bit i (bitAnd m mask) ≡ true → bit i ma
 live-kind m mask i e = and-eq-true-iff (bit i m) (bit i mask) .0 (sym (bit-and i m mask) ∙ e) .1
 
 -- no steps: no marks, and no child is picked out
-pub advances-none : (q : List ℕ) (k : Kinds) (operands : List ℕ) (m : ℕ) (l : Label) → k .count ≡ 0 → Advances q k operands m l 0 false
+pub advances-none : (names : List ℕ) (k : Kinds) (operands : List ℕ) (m : ℕ) (l : Label) → k .count ≡ 0 → Advances names k operands m l 0 false
 unfolding nextMarks number nextPicked pickAt
-advances-none q k operands m l e =
+advances-none names k operands m l e =
     record {
       marks-are = λ x h. sym (ap (λ (n : ℕ). number n (nextMark x m l)) (sym (h .count) ∙ e));
       picked-is = λ x h. sym (ap (pickAt x m l) (sym (h .count) ∙ e));
@@ -166,7 +168,7 @@ module _ (k : Kinds) (m t : ℕ) (few : k .count ≤ 16) (some-steps : k .count 
   abbrev unmasked : ℕ
   unmasked = bitOr (t * 2 ^ 1 % 2 ^ 16) (bitAnd m (k .deep))
 
-  module _ (q operands : List ℕ) (l : Label) (got : Taken q k operands m l t) (x : List Step) (h : Holds q x k operands) where
+  module _ (names operands : List ℕ) (l : Label) (got : Taken names k operands m l t) (x : List Step) (h : Holds names x k operands) where
     kept : (i : ℕ) → bit i (bitAnd m (k .deep)) ≡ (isDeep (getElem? x i) && bit i m)
     kept i =
         bit-and i m (k .deep)
@@ -202,7 +204,7 @@ module _ (k : Kinds) (m t : ℕ) (few : k .count ≤ 16) (some-steps : k .count 
             let last : k .count - 1 ≡ n = omega arith in
             ap (λ (i : ℕ). bit i m && stepHits (getElem? x i) l) last ∙ and-comm (bit n m) (stepHits (getElem? x n) l)
 
-  pub advances : (q operands : List ℕ) (l : Label) → Taken q k operands m l t
-      → Advances q k operands m l (bitAnd unmasked (1 * 2 ^ k .count % 2 ^ 32 - 1)) (eqb (bitAnd (t / 2 ^ (k .count - 1)) 1) 1)
-  advances q operands l got =
-      record { marks-are = λ x h. marks-next q operands l got x h; picked-is = λ x h. picked-next q operands l got x h }
+  pub advances : (names operands : List ℕ) (l : Label) → Taken names k operands m l t
+      → Advances names k operands m l (bitAnd unmasked (1 * 2 ^ k .count % 2 ^ 32 - 1)) (eqb (bitAnd (t / 2 ^ (k .count - 1)) 1) 1)
+  advances names operands l got =
+      record { marks-are = λ x h. marks-next names operands l got x h; picked-is = λ x h. picked-next names operands l got x h }

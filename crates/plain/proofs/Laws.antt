@@ -31,7 +31,7 @@ use Rattle.pairs.specs.Pairs.{tally, Begins, Raises}
 use Rattle.walk.specs.Ahead.{valueAt, ItemAhead, MoreAhead, ItemsAhead, ValueAhead}
 use Rattle.walk.specs.AheadLaws.{items-inside, no-items, first-item, item-value, value-here, value-inside as item-inside}
 use Rattle.walk.specs.AheadLaws.{value-stopped, key-solid, item-passed, more-inside, no-more, next-item}
-use Rattle.walk.specs.Labels.{labelBy, label-is}
+use Rattle.walk.specs.Labels.{LabelBy, label-is}
 use Rattle.walk.specs.ValueLaws.{scalar-passed, container-entered}
 use Rattle.walk.specs.Walks.{Walks}
 use Rattle.plain.specs.Plain.{RootState, EntersChild, WalksValue, WalksItems}
@@ -55,18 +55,19 @@ unfolding frameIf
 frame-more true k = omega arith
 frame-more false k = omega arith
 
-pub enters-child : {q : List ℕ} {kinds : Kinds} {ops s : List ℕ} {a : ℕ} {o : Bool} {j : ℕ} {st : State} {v x y m : ℕ} {p : Bool}
-    {k : ℕ} → EntersItem s a o v x y → Advances q kinds ops (st .marks) (labelBy o (slice x y s) j) m p → k ≡ frameIf (eqb (st .marks) m) (st .frames)
-    → EntersChild q kinds ops s a o j st v (state m p k)
+pub enters-child : {names : List ℕ} {kinds : Kinds} {ops s : List ℕ} {a : ℕ} {o : Bool} {j : ℕ} {st : State} {v x y m : ℕ} {p escaped : Bool}
+    {k : ℕ} → EntersItem s a o v x y escaped → ((l : Label) → LabelBy (slice x y s) j o l → Advances names kinds ops (st .marks) l m p)
+    → k ≡ frameIf (eqb (st .marks) m) (st .frames) → EntersChild names kinds ops s a o j st v (state m p k)
 unfolding next
-enters-child {s = s} {o = o} {j = j} {st = st} {x = x} {y = y} {m = m} item moved framed =
+enters-child {s = s} {o = o} {j = j} {st = st} {x = x} {y = y} {m = m} item moves framed =
     record {
       onward = item .onward;
       within = item .within;
       one-more = omega (arith, frame-more (eqb (st .marks) m) (st .frames));
       exact = λ z h w key rest d f.
           let e = item .exact w key rest d f in
-          (e .0, rw (framed, ← label-is s o key j x y (e .1), ← moved .marks-are z h, ← moved .picked-is z h));
+          let moved = moves (labelOf (kindIf o) key j) (label-is s o key j x y (e .1)) in
+          (e .0, rw (framed, ← moved .marks-are z h, ← moved .picked-is z h));
     }
 
 -- a value that is ahead has a first byte
@@ -94,12 +95,12 @@ ended : {w wait : ℕ} (e : ℕ) (l : List ℕ) {l′ : List ℕ} {u h p : ℕ} 
 unfolding finish
 ended e l {u = u} {h = h} {p = p} x y = ap (λ (z : List ℕ). tally z u h p) (y ∙ ap (λ (k : ℕ). endPair k e l) (sym x))
 
--- a query q compiled into kinds and ops, a record s, and a value at a, with the state st and n levels that may be opened
-module _ {q : List ℕ} {kinds : Kinds} {ops s : List ℕ} {a n : ℕ} {st : State} where
-  pub value-past : {t : Tally} → a ≤ length s → length s ≤ a → WalksValue q kinds ops s a n st t t a
+-- a query's names, kinds and ops, a record s, and a value at a, with the state st and n levels that may be opened
+module _ {names : List ℕ} {kinds : Kinds} {ops s : List ℕ} {a n : ℕ} {st : State} where
+  pub value-past : {t : Tally} → a ≤ length s → length s ≤ a → WalksValue names kinds ops s a n st t t a
   value-past h l = record { onward = omega arith; within = h; exact = λ x f rest goal end v. absurd (value-inside v l) }
 
-  pub value-too-deep : {t t′ : Tally} → a ≤ length s → classOf (getD s a 0) ≡ 1 → n ≡ 0 → WalksValue q kinds ops s a n st t t′ a
+  pub value-too-deep : {t t′ : Tally} → a ≤ length s → classOf (getD s a 0) ≡ 1 → n ≡ 0 → WalksValue names kinds ops s a n st t t′ a
   value-too-deep {t} h f z =
       record {
         onward = omega arith;
@@ -109,7 +110,7 @@ module _ {q : List ℕ} {kinds : Kinds} {ops s : List ℕ} {a n : ℕ} {st : Sta
 
   module _ {list list′ : List ℕ} {used used′ peak stop stop′ wait : ℕ} (begun : Begins (st .picked) list used stop a list′ used′ stop′ wait) where
     pub value-scalar : {last : List ℕ} {e : ℕ} → (classOf (getD s a 0) ≡ 1 → ⊥) → EndsScalar s a e → last ≡ endPair wait e list′
-        → WalksValue q kinds ops s a n st (tally list used peak stop) (tally last used′ peak stop′) e
+        → WalksValue names kinds ops s a n st (tally list used peak stop) (tally last used′ peak stop′) e
     value-scalar {e = e} f h d =
         let t : Tally = tally list used peak stop in
         record {
@@ -122,9 +123,9 @@ module _ {q : List ℕ} {kinds : Kinds} {ops s : List ℕ} {a n : ℕ} {st : Sta
 
     pub value-container : {peak′ used″ peak″ stop″ : ℕ} {list″ last : List ℕ} {e : ℕ} → classOf (getD s a 0) ≡ 1
         → Raises peak (st .frames) stop′ peak′
-        → WalksItems q kinds ops s (a + 1) (n - 1) (eqb (getD s a 0) 0x7B) st (tally list′ used′ peak′ stop′) (tally list″ used″ peak″ stop″) e
+        → WalksItems names kinds ops s (a + 1) (n - 1) (eqb (getD s a 0) 0x7B) st (tally list′ used′ peak′ stop′) (tally list″ used″ peak″ stop″) e
         → last ≡ endPair wait e list″
-        → WalksValue q kinds ops s a n st (tally list used peak stop) (tally last used″ peak″ stop″) e
+        → WalksValue names kinds ops s a n st (tally list used peak stop) (tally last used″ peak″ stop″) e
     value-container {peak′ = peak′} {list″ = list″} {e = e} f r h d =
         let t : Tally = tally list used peak stop in
         record {
@@ -139,14 +140,15 @@ module _ {q : List ℕ} {kinds : Kinds} {ops s : List ℕ} {a n : ℕ} {st : Sta
               (ended e list″ (begun .waits peak) d ∙ finished ∙ y .closes, i .1);
         }
 
--- a query q compiled into kinds and ops, a record s, and the items of a container from a on, with its state st and n levels that may be opened
-module _ (q : List ℕ) (kinds : Kinds) (ops s : List ℕ) (a n : ℕ) (o : Bool) (st : State) (t : Tally) where
+-- a query's names, kinds and ops, a record s, and the items of a container from a on, with its state st and n levels that may be opened
+module _ (names : List ℕ) (kinds : Kinds) (ops s : List ℕ) (a n : ℕ) (o : Bool) (st : State) (t : Tally) where
   -- what was ahead at a with the tally t is ahead at i with the tally u: the item at position j
   pub record AtItem (i j : ℕ) (u : Tally) : Type 0 where
     pub onward : a ≤ i
     pub within : i ≤ length s
     pub behind : j ≤ i
-    pub exact : (x : List Step) → Holds q x kinds ops → (rest : List ℕ) (goal : Tally) (end : ℕ) → ItemsAhead (next x) s rest (kindIf o) st n goal end a t
+    pub exact : (x : List Step) → Holds names x kinds ops → (rest : List ℕ) (goal : Tally) (end : ℕ)
+        → ItemsAhead (next x) s rest (kindIf o) st n goal end a t
         → ItemAhead (next x) s rest (kindIf o) st n goal end i j u
 
   -- an item has been passed; the next one's position is j
@@ -154,11 +156,12 @@ module _ (q : List ℕ) (kinds : Kinds) (ops s : List ℕ) (a n : ℕ) (o : Bool
     pub onward : a ≤ i
     pub within : i ≤ length s
     pub behind : j ≤ i + 1
-    pub exact : (x : List Step) → Holds q x kinds ops → (rest : List ℕ) (goal : Tally) (end : ℕ) → ItemsAhead (next x) s rest (kindIf o) st n goal end a t
+    pub exact : (x : List Step) → Holds names x kinds ops → (rest : List ℕ) (goal : Tally) (end : ℕ)
+        → ItemsAhead (next x) s rest (kindIf o) st n goal end a t
         → MoreAhead (next x) s rest (kindIf o) st n goal end i j u
 
-module _ {q : List ℕ} {kinds : Kinds} {ops s : List ℕ} {a n : ℕ} {o : Bool} {st : State} {t : Tally} where
-  pub items-cut : {i : ℕ} → EndsBlanks s a i → length s ≤ i → WalksItems q kinds ops s a n o st t t i
+module _ {names : List ℕ} {kinds : Kinds} {ops s : List ℕ} {a n : ℕ} {o : Bool} {st : State} {t : Tally} where
+  pub items-cut : {i : ℕ} → EndsBlanks s a i → length s ≤ i → WalksItems names kinds ops s a n o st t t i
   items-cut {i} b l =
       record {
         onward = b .onward;
@@ -166,7 +169,7 @@ module _ {q : List ℕ} {kinds : Kinds} {ops s : List ℕ} {a n : ℕ} {o : Bool
         exact = λ x f rest goal end v. absurd (omega (arith, items-inside (next x) s rest (kindIf o) st n goal end a i t v b));
       }
 
-  pub items-none : {i : ℕ} → EndsBlanks s a i → i < length s → classOf (getD s i 0) ≡ 2 → WalksItems q kinds ops s a n o st t t (i + 1)
+  pub items-none : {i : ℕ} → EndsBlanks s a i → i < length s → classOf (getD s i 0) ≡ 2 → WalksItems names kinds ops s a n o st t t (i + 1)
   items-none {i} b l e =
       record {
         onward = omega (arith, b .onward);
@@ -174,7 +177,7 @@ module _ {q : List ℕ} {kinds : Kinds} {ops s : List ℕ} {a n : ℕ} {o : Bool
         exact = λ x f rest goal end v. let y = no-items (next x) s rest (kindIf o) st n goal end a i t v b e in (y .0, sym (y .1));
       }
 
-  pub items-begin : {i : ℕ} → EndsBlanks s a i → (classOf (getD s i 0) ≡ 2 → ⊥) → AtItem q kinds ops s a n o st t i 0 t
+  pub items-begin : {i : ℕ} → EndsBlanks s a i → (classOf (getD s i 0) ≡ 2 → ⊥) → AtItem names kinds ops s a n o st t i 0 t
   items-begin {i} b f =
       record {
         onward = b .onward;
@@ -184,8 +187,8 @@ module _ {q : List ℕ} {kinds : Kinds} {ops s : List ℕ} {a n : ℕ} {o : Bool
       }
 
   -- an item's value is entered and walked
-  pub item-walked : {i j v e : ℕ} {st′ : State} {u u′ : Tally} → AtItem q kinds ops s a n o st t i j u → EntersChild q kinds ops s i o j st v st′
-      → WalksValue q kinds ops s v n st′ u u′ e → AtMore q kinds ops s a n o st t e (j + 1) u′
+  pub item-walked : {i j v e : ℕ} {st′ : State} {u u′ : Tally} → AtItem names kinds ops s a n o st t i j u
+      → EntersChild names kinds ops s i o j st v st′ → WalksValue names kinds ops s v n st′ u u′ e → AtMore names kinds ops s a n o st t e (j + 1) u′
   item-walked {i} {j} {v} {e} {st′} {u} {u′} p h w =
       record {
         onward = omega (arith, p .onward, h .onward, w .onward);
@@ -212,7 +215,8 @@ module _ {q : List ℕ} {kinds : Kinds} {ops s : List ℕ} {a n : ℕ} {o : Bool
             item-passed (next x) s rest k st n goal end i j u y e u′ (g .1) (sym (g .0));
       }
 
-  pub more-cut : {i j e : ℕ} {u : Tally} → AtMore q kinds ops s a n o st t i j u → EndsBlanks s i e → length s ≤ e → WalksItems q kinds ops s a n o st t u e
+  pub more-cut : {i j e : ℕ} {u : Tally} → AtMore names kinds ops s a n o st t i j u → EndsBlanks s i e → length s ≤ e
+      → WalksItems names kinds ops s a n o st t u e
   more-cut {i} {j} {e} {u} p b l =
       record {
         onward = omega (arith, p .onward, b .onward);
@@ -221,8 +225,8 @@ module _ {q : List ℕ} {kinds : Kinds} {ops s : List ℕ} {a n : ℕ} {o : Bool
             absurd (omega (arith, more-inside (next x) s rest (kindIf o) st n goal end i j e u (p .exact x f rest goal end v) b));
       }
 
-  pub more-none : {i j e : ℕ} {u : Tally} → AtMore q kinds ops s a n o st t i j u → EndsBlanks s i e → e < length s → (getD s e 0 ≡ 0x2C → ⊥)
-      → WalksItems q kinds ops s a n o st t u (e + 1)
+  pub more-none : {i j e : ℕ} {u : Tally} → AtMore names kinds ops s a n o st t i j u → EndsBlanks s i e → e < length s → (getD s e 0 ≡ 0x2C → ⊥)
+      → WalksItems names kinds ops s a n o st t u (e + 1)
   more-none {i} {j} {e} {u} p b l f =
       record {
         onward = omega (arith, p .onward, b .onward);
@@ -231,8 +235,8 @@ module _ {q : List ℕ} {kinds : Kinds} {ops s : List ℕ} {a n : ℕ} {o : Bool
             let y = no-more (next x) s rest (kindIf o) st n goal end i j e u (p .exact x h rest goal end v) b f in (y .0, sym (y .1));
       }
 
-  pub more-again : {i j e : ℕ} {u : Tally} → AtMore q kinds ops s a n o st t i j u → EndsBlanks s i e → e < length s → getD s e 0 ≡ 0x2C
-      → AtItem q kinds ops s a n o st t (e + 1) j u
+  pub more-again : {i j e : ℕ} {u : Tally} → AtMore names kinds ops s a n o st t i j u → EndsBlanks s i e → e < length s → getD s e 0 ≡ 0x2C
+      → AtItem names kinds ops s a n o st t (e + 1) j u
   more-again {i} {j} {e} {u} p b l f =
       record {
         onward = omega (arith, p .onward, b .onward);
@@ -242,8 +246,9 @@ module _ {q : List ℕ} {kinds : Kinds} {ops s : List ℕ} {a n : ℕ} {o : Bool
       }
 
 -- the root stands after the blanks before it, with the state that a walk starts with
-pub walks-root : {q : List ℕ} {kinds : Kinds} {ops s list after : List ℕ} {a e used peak stop : ℕ} {st : State} → EndsBlanks s 0 a → RootState (kinds .count) st
-    → WalksValue q kinds ops s a maxDepth st (tally list 0 0 0) (tally after used peak stop) e → Walks q kinds ops s list after used peak stop
+pub walks-root : {names : List ℕ} {kinds : Kinds} {ops s list after : List ℕ} {a e used peak stop : ℕ} {st : State} → EndsBlanks s 0 a
+    → RootState (kinds .count) st → WalksValue names kinds ops s a maxDepth st (tally list 0 0 0) (tally after used peak stop) e
+    → Walks names kinds ops s list after used peak stop
 unfolding text root nodeVisits fresh
 walks-root {s = s} {list = list} {a = a} b r w =
     record {

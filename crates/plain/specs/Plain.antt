@@ -31,14 +31,14 @@ pub record RootState (n : ℕ) (st : State) : Type 0 where
   pub no-frames : st .frames ≡ 0
   pub starts : (x : List Step) → length x ≡ n → st ≡ start x
 
--- a query q compiled into kinds and operands, and a record s
-module _ (q : List ℕ) (kinds : Kinds) (operands s : List ℕ) where
+-- a query's names, kinds and operands, and a record s
+module _ (names : List ℕ) (kinds : Kinds) (operands s : List ℕ) where
   -- the item at position j stands at a, in a container with the state st: the place of its value, and the value's state
   pub record EntersChild (a : ℕ) (isObject : Bool) (j : ℕ) (st : State) (v : ℕ) (st′ : State) : Type 0 where
     pub onward : a ≤ v
     pub within : v ≤ length s
     pub one-more : st′ .frames ≤ st .frames + 1
-    pub exact : (x : List Step) → Holds q x kinds operands
+    pub exact : (x : List Step) → Holds names x kinds operands
         → (w : Blanks) (key : Key (kindIf isObject)) (rest : List ℕ)
         → drop a s ≡ putBlanks w (putKey (kindIf isObject) key rest) → solid rest ≡ true
         → (v ≡ valueAt (kindIf isObject) a w key) × (st′ ≡ next x st (labelOf (kindIf isObject) key j))
@@ -47,12 +47,12 @@ module _ (q : List ℕ) (kinds : Kinds) (operands s : List ℕ) where
   pub record WalksValue (a n : ℕ) (st : State) (t t′ : Tally) (e : ℕ) : Type 0 where
     pub onward : a ≤ e
     pub within : e ≤ length s
-    pub exact : (x : List Step) → Holds q x kinds operands → (rest : List ℕ) (goal : Tally) (end : ℕ)
+    pub exact : (x : List Step) → Holds names x kinds operands → (rest : List ℕ) (goal : Tally) (end : ℕ)
         → ValueAhead (next x) s rest st n goal end a t → (t′ ≡ goal) × (e ≡ end)
 
   -- the items of a container with the state st are walked, from the place after its opening bracket to that after its closing one
   pub record WalksItems (a n : ℕ) (isObject : Bool) (st : State) (t t′ : Tally) (e : ℕ) : Type 0 where
     pub onward : a ≤ e
     pub within : e ≤ length s
-    pub exact : (x : List Step) → Holds q x kinds operands → (rest : List ℕ) (goal : Tally) (end : ℕ)
+    pub exact : (x : List Step) → Holds names x kinds operands → (rest : List ℕ) (goal : Tally) (end : ℕ)
         → ItemsAhead (next x) s rest (kindIf isObject) st n goal end a t → (t′ ≡ goal) × (e ≡ end)

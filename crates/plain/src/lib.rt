@@ -2,6 +2,7 @@
 use encoding::CLOSING;
 use encoding::OPENING;
 use json::MAX_DEPTH;
+use names::Names;
 use pairs::Counts;
 use query_parser::Compiled;
 use query_parser::Kinds;
@@ -58,7 +59,7 @@ fn root_state(count: usize) -> State
 // Enters the item at `at` of a container with the state `around`, of which it is item number `index`, from 0: the place of the item's value,
 // and the value's state.
 fn enter_child(
-    query: &[u8],
+    names: &Names,
     kinds: Kinds,
     operands: &[u64; 16],
     record: &[u8],
@@ -67,16 +68,31 @@ fn enter_child(
     index: usize,
     around: State,
 ) -> Child
-    requires { ⌜ Fits (now query) kinds (now operands) ⌝ }
+    requires { ⌜ Fits kinds (now operands) ⌝ }
     requires { ⌜ (at ≤ length (now «record»)) × (around .frames < maxDepth) ⌝ }
-    ensures { λ r. ⌜ EntersChild (now (query .entry)) kinds (now (operands .entry)) (now («record» .entry)) at object index (stateOf around) (r .at) (stateOf (r .state)) ⌝ }
+    ensures { λ r. ⌜ EntersChild (now (names .entry)) kinds (now (operands .entry)) (now («record» .entry)) at object index
+        (stateOf around) (r .at) (stateOf (r .state)) ⌝ }
 {
     let item = scan::enter_item(record, at, object);
     let above = around.marks;
     let from = item.from;
     let to = item.to;
     let hits = if object {
-        marks::taking_member(query, kinds, operands, above, record, from, to)
+        if item.escaped {
+            marks::taking_escaped(
+                names,
+                operands,
+                kinds.every,
+                kinds.named,
+                kinds.count,
+                above,
+                record,
+                from,
+                to,
+            )
+        } else {
+            marks::taking_member(names, kinds, operands, above, record, from, to)
+        }
     } else {
         marks::taking_element(kinds, operands, above, index)
     };
@@ -96,7 +112,7 @@ fn enter_child(
 // and walks its items. Where no level is left it ends at the bracket; no checked record comes to that.
 fn walk_value(
     classes: &[u8; 256],
-    query: &[u8],
+    names: &Names,
     kinds: Kinds,
     operands: &[u64; 16],
     record: &[u8],
@@ -107,9 +123,10 @@ fn walk_value(
     counts: Counts,
 ) -> Walked
     requires { ⌜ ClassTable (now classes) ⌝ }
-    requires { ⌜ Fits (now query) kinds (now operands) ⌝ }
+    requires { ⌜ Fits kinds (now operands) ⌝ }
     requires { ⌜ (length (now «record») ≤ maxBytes) × (at ≤ length (now «record»)) × (node .frames + left ≤ maxDepth) ⌝ }
-    ensures { λ r. ⌜ WalksValue (now (query .entry)) kinds (now (operands .entry)) (now («record» .entry)) at left (stateOf node) (tallyOf (now (list .entry)) counts) (tallyOf (now (list .exit)) (r .counts)) (r .end) ⌝ }
+    ensures { λ r. ⌜ WalksValue (now (names .entry)) kinds (now (operands .entry)) (now («record» .entry)) at left (stateOf node)
+        (tallyOf (now (list .entry)) counts) (tallyOf (now (list .exit)) (r .counts)) (r .end) ⌝ }
 {
     if at >= record.len() {
         return Walked { end: at, counts };
@@ -136,7 +153,7 @@ fn walk_value(
     let object = byte == OBJECT;
     let walked = walk_items(
         classes,
-        query,
+        names,
         kinds,
         operands,
         record,
@@ -155,7 +172,7 @@ fn walk_value(
 // levels deep, up to its closing bracket.
 fn walk_items(
     classes: &[u8; 256],
-    query: &[u8],
+    names: &Names,
     kinds: Kinds,
     operands: &[u64; 16],
     record: &[u8],
@@ -167,9 +184,10 @@ fn walk_items(
     counts: Counts,
 ) -> Walked
     requires { ⌜ ClassTable (now classes) ⌝ }
-    requires { ⌜ Fits (now query) kinds (now operands) ⌝ }
+    requires { ⌜ Fits kinds (now operands) ⌝ }
     requires { ⌜ (length (now «record») ≤ maxBytes) × (at ≤ length (now «record»)) × (node .frames + left < maxDepth) ⌝ }
-    ensures { λ r. ⌜ WalksItems (now (query .entry)) kinds (now (operands .entry)) (now («record» .entry)) at left object (stateOf node) (tallyOf (now (list .entry)) counts) (tallyOf (now (list .exit)) (r .counts)) (r .end) ⌝ }
+    ensures { λ r. ⌜ WalksItems (now (names .entry)) kinds (now (operands .entry)) (now («record» .entry)) at left object
+        (stateOf node) (tallyOf (now (list .entry)) counts) (tallyOf (now (list .exit)) (r .counts)) (r .end) ⌝ }
 {
     let first = scan::skip_blanks(record, at);
     if first >= record.len() {
@@ -183,11 +201,11 @@ fn walk_items(
     let mut index: usize = 0;
     let mut sum = counts;
     loop {
-        let child = enter_child(query, kinds, operands, record, i, object, index, node);
+        let child = enter_child(names, kinds, operands, record, i, object, index, node);
         let below = child.state;
         let walked = walk_value(
             classes,
-            query,
+            names,
             kinds,
             operands,
             record,
@@ -214,10 +232,11 @@ fn walk_items(
 
 // Lists the nodes of a checked record that a query picks out, and counts frames, by the plain walk: what the list holds and the counts
 // are the tally of all nodes. Where the list has too few pairs it holds the first nodes, and the walk says where the first one left over is.
-pub fn walk_plain(query: &[u8], steps: Compiled, record: &[u8], list: &mut [u32]) -> Counts
-    requires { ⌜ Fits (now query) (steps .kinds) (steps .operands) ⌝ }
+pub fn walk_plain(names: &Names, steps: Compiled, record: &[u8], list: &mut [u32]) -> Counts
+    requires { ⌜ Fits (steps .kinds) (steps .operands) ⌝ }
     requires { ⌜ length (now «record») ≤ maxBytes ⌝ }
-    ensures { λ r. ⌜ Walks (now (query .entry)) (steps .kinds) (steps .operands) (now («record» .entry)) (now (list .entry)) (now (list .exit)) (r .used) (r .peak) (r .stop) ⌝ }
+    ensures { λ r. ⌜ Walks (now (names .entry)) (steps .kinds) (steps .operands) (now («record» .entry)) (now (list .entry)) (now (list .exit))
+        (r .used) (r .peak) (r .stop) ⌝ }
 {
     let classes = encoding::classes();
     let kinds = steps.kinds;
@@ -231,7 +250,7 @@ pub fn walk_plain(query: &[u8], steps: Compiled, record: &[u8], list: &mut [u32]
     };
     let walked = walk_value(
         &classes,
-        query,
+        names,
         kinds,
         &operands,
         record,

@@ -5,6 +5,8 @@ use Prim.Native.Nat.{ℕ}
 use Rattle.encoding.specs.Bytes.{In, putIn, Blank, Blanks, blankByte, putBlanks}
 use Rattle.encoding.specs.BytesLaws.{append-in, append-blanks}
 use Rattle.encoding.specs.Utf8Laws.{append-wide}
+use Rattle.query.specs.Escapes as E
+use Rattle.query.specs.Escapes.{HexChar, putHexChar}
 use Rattle.query.specs.Grammar as G
 use Rattle.query.specs.Grammar.{First, Later, Quote, Char, quoteByte, Position, Short, Inner, Depth, Segment, Spaced, Query}
 use Rattle.query.specs.Grammar.{putFirst, putLater, putLaters, putChar, putChars, putShort, putInner, putDots, putDeep, putSegment}
@@ -29,12 +31,21 @@ unfolding putLaters
 append-laters [] s u = refl
 append-laters (c ∷ cs) s u = ap (putLater c) (append-laters cs s u) ∙ append-later c (putLaters cs s) u
 
+append-hex-char : (x : HexChar) (s u : List ℕ) → putHexChar x (s ++ u) ≡ putHexChar x s ++ u
+unfolding putHexChar
+append-hex-char (E.usual x y z w) s u = refl
+append-hex-char (E.below x y z w) s u = refl
+append-hex-char (E.pair (x, y, z, w) (x′, y′, z′, w′)) s u = refl
+
 pub append-char : {q : Quote} (c : Char q) (s u : List ℕ) → putChar c (s ++ u) ≡ putChar c s ++ u
 unfolding putChar
 append-char (G.low x) s u = refl
 append-char (G.mid x) s u = refl
 append-char (G.high x) s u = refl
 append-char (Char.wide p) s u = append-wide p s u
+append-char G.own s u = refl
+append-char (G.escaped e) s u = refl
+append-char (G.unicode x) s u = ap (λ (l : List ℕ). 0x5C ∷ 0x75 ∷ l) (append-hex-char x s u)
 
 pub append-chars : {q : Quote} (cs : List (Char q)) (s u : List ℕ) → putChars cs (s ++ u) ≡ putChars cs s ++ u
 unfolding putChars

@@ -6,7 +6,8 @@ use mathlib.Core.Bool.{Bool, true, false}
 use Prim.Native.Nat.{ℕ, suc}
 use Rattle.query.specs.Grammar as G
 use Rattle.query.specs.Machine as M
-use Rattle.query.specs.Machine.{Control, root, done, gap, opened, closing, inPosition, inside, tailDue, State, dead, beginRules, step, final}
+use Rattle.query.specs.Machine.{Control, root, done, gap, opened, closing, inPosition, inside, inEscape, tailDue}
+use Rattle.query.specs.Machine.{State, dead, beginRules, step, final}
 use Rattle.query.specs.Read.{begin, Placed, named, Reading, good, bad, note, reading}
 use Rattle.query.specs.MachineLaws.{Lives, every-pick}
 use Rattle.query.specs.Spell as P
@@ -28,6 +29,7 @@ Begins opened = Unit {0}
 Begins closing = ⊥
 Begins (inPosition v) = ⊥
 Begins (inside h) = ⊥
+Begins (inEscape d q) = ⊥
 Begins (tailDue p n h) = ⊥
 
 ended-begin : (n b : ℕ) (r : Reading) → Ended (note begin n b r)
@@ -47,6 +49,7 @@ ended-state n b s (M.at opened) e l again = subst Ended (sym (P.turn gap opened 
 ended-state n b s (M.at closing) e l again = absurd l
 ended-state n b s (M.at (inPosition v)) e l again = absurd l
 ended-state n b s (M.at (inside h)) e l again = absurd l
+ended-state n b s (M.at (inEscape d q)) e l again = absurd l
 ended-state n b s (M.at (tailDue p k h)) e l again = absurd l
 
 begins-lives : (b : ℕ) → Lives Begins (step (M.at gap) b)

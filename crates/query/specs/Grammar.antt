@@ -1,11 +1,13 @@
 -- The part of RFC 9535 that is taken (document 01, "The part of RFC 9535"), as syntax trees and the bytes that they are written as.
 use mathlib.Core.Path.{_≡_}
-use mathlib.Core.List.{List, [], _∷_}
+use mathlib.Core.List.{List, [], _∷_, map}
 use mathlib.Core.Bool.{Bool, true, false}
 use Prim.Native.Nat.{ℕ, _≤_}
 use Rattle.encoding.specs.Bytes.{In, putIn, Blanks, putBlanks}
 use Rattle.encoding.specs.Decimal.{valueOf}
+use Rattle.encoding.specs.Points.{pointOf}
 use Rattle.encoding.specs.Utf8.{Wide, putWide}
+use Rattle.query.specs.Escapes.{Escape, escapeByte, escapePoint, HexChar, putHexChar, hexCharPoint}
 use Rattle.query.specs.Steps.{Selector, Step}
 use Rattle.query.specs.Steps as S
 
@@ -39,12 +41,15 @@ abbrev pub afterQuote : Quote → ℕ
 afterQuote single = 0x28
 afterQuote double = 0x23
 
--- a character of a quoted name: no control below 20, no backslash, not its own quote
+-- a character of a quoted name (RFC 9535 §2.3.1.1): as itself, no control below 20, no backslash and not its own quote; or escaped
 pub data Char (q : Quote) : Type 0 where
   low : In 0x20 (beforeQuote q) → Char q
   mid : In (afterQuote q) 0x5B → Char q
   high : In 0x5D 0x7F → Char q
   wide : Wide → Char q
+  own : Char q  -- its own quote; the other one is not escaped
+  escaped : Escape → Char q
+  unicode : HexChar → Char q
 
 -- a position (RFC 9535 §2.3.3, without the minus sign): "0" / (DIGIT1 *DIGIT)
 pub data Position : Type 0 where
@@ -113,11 +118,14 @@ putLaters [] s = s
 putLaters (c ∷ cs) s = putLater c (putLaters cs s)
 
 unfoldable pub putChar : {q : Quote} → Char q → List ℕ → List ℕ
-unfolding putWide
+unfolding putWide putHexChar
 putChar (low x) s = x .byte ∷ s
 putChar (mid x) s = x .byte ∷ s
 putChar (high x) s = x .byte ∷ s
 putChar (wide p) s = putWide p s
+putChar {q} own s = 0x5C ∷ quoteByte q ∷ s
+putChar (escaped e) s = 0x5C ∷ escapeByte e ∷ s
+putChar (unicode x) s = 0x5C ∷ 0x75 ∷ putHexChar x s
 
 unfoldable pub putChars : {q : Quote} → List (Char q) → List ℕ → List ℕ
 unfolding putChar
@@ -167,20 +175,52 @@ pub record QueryText (s : List ℕ) : Type 0 where
   pub tree : Query
   pub written : text tree ≡ s
 
--- what a written step is: names are their bytes as written
+-- the code points of a name
+
+unfoldable pub firstPoint : First → ℕ
+unfolding pointOf
+firstPoint (upper x) = x .byte
+firstPoint (lower x) = x .byte
+firstPoint underscore = 0x5F
+firstPoint (wide p) = pointOf p
+
+unfoldable pub laterPoint : Later → ℕ
+unfolding firstPoint
+laterPoint (first x) = firstPoint x
+laterPoint (digit x) = x .byte
+
+unfoldable pub charPoint : {q : Quote} → Char q → ℕ
+unfolding pointOf hexCharPoint
+charPoint (low x) = x .byte
+charPoint (mid x) = x .byte
+charPoint (high x) = x .byte
+charPoint (wide p) = pointOf p
+charPoint {q} own = quoteByte q
+charPoint (escaped e) = escapePoint e
+charPoint (unicode x) = hexCharPoint x
+
+unfoldable pub shortPoints : First → List Later → List ℕ
+unfolding firstPoint laterPoint
+shortPoints x cs = firstPoint x ∷ map laterPoint cs
+
+unfoldable pub quotedPoints : {q : Quote} → List (Char q) → List ℕ
+unfolding charPoint
+quotedPoints cs = map charPoint cs
+
+-- what a written step is: a name is its code points
 abbrev pub isDeep : Depth → Bool
 isDeep plain = false
 isDeep deep = true
 
 unfoldable pub shortSelector : Short → Selector
-unfolding putFirst putLaters
+unfolding shortPoints
 shortSelector star = S.every
-shortSelector (shorthand x cs) = S.name (putFirst x (putLaters cs []))
+shortSelector (shorthand x cs) = S.name (shortPoints x cs)
 
 unfoldable pub innerSelector : Inner → Selector
-unfolding putChars positionOf
+unfolding quotedPoints positionOf
 innerSelector star = S.every
-innerSelector (quoted q cs) = S.name (putChars cs [])
+innerSelector (quoted q cs) = S.name (quotedPoints cs)
 innerSelector (position p small) = S.position (positionOf p)
 
 unfoldable pub segmentStep : Segment → Step

@@ -1,10 +1,12 @@
 pub mod Append
 pub mod At
 pub mod Ended
+pub mod Escapes
 pub mod Examples
 pub mod Grammar
 pub mod Machine
 pub mod MachineLaws
+pub mod NamesLaws
 pub mod Place
 pub mod Positions
 pub mod Read
@@ -15,3 +17,4 @@ pub mod Steps
 pub mod StepsLaws
 pub mod Text
 pub mod Verdict
+pub mod Written

@@ -11,6 +11,15 @@ pub data Home : Type 0 where
   short : Home
   quoted : Quote → Home
 
+-- in an escape of a quoted name, which of its bytes is due
+pub data Due : Type 0 where
+  kind : Due  -- the one behind the backslash
+  first : Due  -- the first digit behind `\u`
+  behindD : Due  -- the digit behind `\uD`
+  digits : ℕ → Due  -- a hexadecimal digit, and then so many more
+  highDigits : ℕ → Due  -- the same in a high half, and then a low half
+  lowBackslash lowU lowD lowDigit : Due  -- of the low half: its backslash, its `u`, its D, and the digit from C to F behind it
+
 pub data Control : Type 0 where
   root : Control  -- `$` is due
   done : Control  -- after `$`, or after a step that ends with its last byte
@@ -20,6 +29,7 @@ pub data Control : Type 0 where
   closing : Control  -- in brackets, after it
   inPosition : ℕ → Control  -- in a position whose digits so far stand for this number
   inside : Home → Control  -- in a name
+  inEscape : Due → Quote → Control  -- in an escape of a quoted name
   tailDue : Second → ℕ → Home → Control  -- in a code point of a name: its second byte is due, and then so many of 80-BF
 
 -- a state of the machine; dead: no query begins so
@@ -101,11 +111,48 @@ moreDigits (suc v) = digitRules (suc v) 10
 abbrev pub innerRules : List Rule
 innerRules = only 0x2A closing ∷ only 0x27 (inside (quoted single)) ∷ only 0x22 (inside (quoted double)) ∷ digitRules 0 10
 
--- the bytes below 80 of a quoted name, and its closing quote
+-- the bytes below 80 of a quoted name, its closing quote, and the backslash of an escape
 abbrev pub charRules : Quote → List Rule
 charRules q =
     range 0x20 (beforeQuote q) (inside (quoted q)) ∷ range (afterQuote q) 0x5B (inside (quoted q)) ∷
-    range 0x5D 0x7F (inside (quoted q)) ∷ only (quoteByte q) closing ∷ []
+    range 0x5D 0x7F (inside (quoted q)) ∷ only (quoteByte q) closing ∷ only 0x5C (inEscape kind q) ∷ []
+
+-- behind the backslash of an escape
+abbrev pub kindRules : Quote → List Rule
+kindRules q =
+    only 0x62 (inside (quoted q)) ∷ only 0x66 (inside (quoted q)) ∷ only 0x6E (inside (quoted q)) ∷
+    only 0x72 (inside (quoted q)) ∷ only 0x74 (inside (quoted q)) ∷ only 0x2F (inside (quoted q)) ∷
+    only 0x5C (inside (quoted q)) ∷ only (quoteByte q) (inside (quoted q)) ∷ only 0x75 (inEscape first q) ∷ []
+
+-- a hexadecimal digit
+abbrev pub hexRules : Control → List Rule
+hexRules c = range 0x30 0x39 c ∷ range 0x41 0x46 c ∷ range 0x61 0x66 c ∷ []
+
+-- behind a digit, with so many more due, of the last four and of a high half
+
+abbrev pub digitsDue : ℕ → Quote → Control
+digitsDue zero q = inside (quoted q)
+digitsDue (suc n) q = inEscape (digits n) q
+
+abbrev pub highDigitsDue : ℕ → Quote → Control
+highDigitsDue zero q = inEscape lowBackslash q
+highDigitsDue (suc n) q = inEscape (highDigits n) q
+
+abbrev pub escapeRules : Due → Quote → List Rule
+escapeRules kind q = kindRules q
+escapeRules first q =
+    range 0x30 0x39 (inEscape (digits 2) q) ∷ range 0x41 0x43 (inEscape (digits 2) q) ∷
+    range 0x45 0x46 (inEscape (digits 2) q) ∷ range 0x61 0x63 (inEscape (digits 2) q) ∷
+    range 0x65 0x66 (inEscape (digits 2) q) ∷ only 0x44 (inEscape behindD q) ∷ only 0x64 (inEscape behindD q) ∷ []
+escapeRules behindD q =
+    range 0x30 0x37 (inEscape (digits 1) q) ∷ range 0x38 0x39 (inEscape (highDigits 1) q) ∷
+    range 0x41 0x42 (inEscape (highDigits 1) q) ∷ range 0x61 0x62 (inEscape (highDigits 1) q) ∷ []
+escapeRules (digits n) q = hexRules (digitsDue n q)
+escapeRules (highDigits n) q = hexRules (highDigitsDue n q)
+escapeRules lowBackslash q = only 0x5C (inEscape lowU q) ∷ []
+escapeRules lowU q = only 0x75 (inEscape lowD q) ∷ []
+escapeRules lowD q = only 0x44 (inEscape lowDigit q) ∷ only 0x64 (inEscape lowDigit q) ∷ []
+escapeRules lowDigit q = range 0x43 0x46 (inEscape (digits 1) q) ∷ range 0x63 0x66 (inEscape (digits 1) q) ∷ []
 
 -- after a code point's second byte
 abbrev pub tailsDue : ℕ → Home → Control
@@ -123,6 +170,7 @@ rules closing = blankRules closing (only 0x5D done ∷ [])
 rules (inPosition v) = blankRules closing (only 0x5D done ∷ moreDigits v)
 rules (inside short) = firstRules (range 0x30 0x39 (inside short) ∷ beginRules)
 rules (inside (quoted q)) = wideRules (quoted q) (charRules q)
+rules (inEscape d q) = escapeRules d q
 rules (tailDue p n h) = range (secondLow p) (secondHigh p) (tailsDue n h) ∷ []
 
 abbrev pub takes : Rule → ℕ → Bool
@@ -159,6 +207,7 @@ final closing = false
 final (inPosition v) = false
 final (inside short) = true
 final (inside (quoted q)) = false
+final (inEscape d q) = false
 final (tailDue p n h) = false
 
 abbrev pub accept : State → Bool

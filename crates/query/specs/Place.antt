@@ -10,10 +10,11 @@ use lib.ListN.{length, take}
 use Rattle.encoding.specs.Prefix.{Alive, DeadPlace}
 use Rattle.encoding.specs.Utf8.{anyTail, afterE0, afterED, afterF0, afterF4}
 use Rattle.query.specs.Grammar as G
-use Rattle.query.specs.Grammar.{Query, QueryText, text}
+use Rattle.query.specs.Grammar.{Quote, Query, QueryText, text}
 use Rattle.query.specs.Machine as M
-use Rattle.query.specs.Machine.{Home, short, quoted, Control, root, done, gap, opened}
-use Rattle.query.specs.Machine.{closing, inPosition, inside, tailDue, tailsDue, State, dead, at, step, run, place, final, accept, start}
+use Rattle.query.specs.Machine.{Home, short, quoted, Due, kind, behindD, digits, highDigits, lowBackslash, lowU, lowD, lowDigit}
+use Rattle.query.specs.Machine.{Control, root, done, gap, opened, closing, inPosition, inside, inEscape, tailDue}
+use Rattle.query.specs.Machine.{digitsDue, highDigitsDue, tailsDue, State, dead, at, step, run, place, final, accept, start}
 use Rattle.query.specs.Read.{Event, Ahead, named, Reading, good, bad, note, event, reading}
 use Rattle.query.specs.Text.{reads-text}
 use Rattle.query.specs.Sound.{sound}
@@ -69,6 +70,32 @@ complete-name short = ([], refl)
 complete-name (quoted G.single) = (0x27 ∷ 0x5D ∷ [], refl)
 complete-name (quoted G.double) = (0x22 ∷ 0x5D ∷ [], refl)
 
+complete-digits : (n : ℕ) (q : Quote) → (w : List ℕ) × Accepts (at (digitsDue n q)) w
+unfolding run
+complete-digits zero q = complete-name (quoted q)
+complete-digits (suc n) q = let r = complete-digits n q in (0x30 ∷ r .0, r .1)
+
+complete-low : (q : Quote) → (w : List ℕ) × Accepts (at (inEscape lowDigit q)) w
+unfolding run
+complete-low q = let r = complete-digits 2 q in (0x43 ∷ r .0, r .1)
+
+complete-high : (n : ℕ) (q : Quote) → (w : List ℕ) × Accepts (at (highDigitsDue n q)) w
+unfolding run
+complete-high zero q = let r = complete-low q in (0x5C ∷ 0x75 ∷ 0x44 ∷ r .0, r .1)
+complete-high (suc n) q = let r = complete-high n q in (0x30 ∷ r .0, r .1)
+
+complete-escape : (d : Due) (q : Quote) → (w : List ℕ) × Accepts (at (inEscape d q)) w
+unfolding run
+complete-escape kind q = let r = complete-name (quoted q) in (0x62 ∷ r .0, r .1)
+complete-escape M.first q = let r = complete-digits 3 q in (0x30 ∷ r .0, r .1)
+complete-escape behindD q = let r = complete-digits 2 q in (0x30 ∷ r .0, r .1)
+complete-escape (digits n) q = complete-digits (suc n) q
+complete-escape (highDigits n) q = complete-high (suc n) q
+complete-escape lowBackslash q = complete-high 0 q
+complete-escape lowU q = let r = complete-low q in (0x75 ∷ 0x44 ∷ r .0, r .1)
+complete-escape lowD q = let r = complete-low q in (0x44 ∷ r .0, r .1)
+complete-escape lowDigit q = complete-low q
+
 complete-tails : (n : ℕ) (h : Home) → (w : List ℕ) × Accepts (at (tailsDue n h)) w
 unfolding run
 complete-tails zero h = complete-name h
@@ -84,6 +111,7 @@ viable opened = (0x2A ∷ 0x5D ∷ [], refl)
 viable closing = (0x5D ∷ [], refl)
 viable (inPosition v) = (0x5D ∷ [], refl)
 viable (inside h) = complete-name h
+viable (inEscape d q) = complete-escape d q
 viable (tailDue anyTail n h) = let r = complete-tails n h in (0x80 ∷ r .0, r .1)
 viable (tailDue afterE0 n h) = let r = complete-tails n h in (0xA0 ∷ r .0, r .1)
 viable (tailDue afterED n h) = let r = complete-tails n h in (0x80 ∷ r .0, r .1)

@@ -1,12 +1,12 @@
--- The steps of a query by its bytes: each byte says something of the step that it stands in, and `reading` gathers it from the last byte to
--- the first.
+-- The steps of a query by its bytes, names as they are written: each byte says something of the step that it stands in, and `reading` gathers
+-- it from the last byte to the first.
 use mathlib.Core.List.{List, [], _∷_}
 use mathlib.Core.Bool.{Bool, true, false, _||_}
 use Prim.Native.Nat.{ℕ, suc}
 use Rattle.query.specs.Grammar.{plain, deep}
 use Rattle.query.specs.Steps.{Selector, Step}
 use Rattle.query.specs.Steps as S
-use Rattle.query.specs.Machine.{Control, root, done, gap, dotted, opened, closing, inPosition, inside, tailDue, dead, at, step, final}
+use Rattle.query.specs.Machine.{Control, root, done, gap, dotted, opened, closing, inPosition, inside, inEscape, tailDue, dead, at, step, final}
 
 -- what a byte says of the step that it stands in
 pub data Event : Type 0 where
@@ -27,6 +27,7 @@ isDotted opened = false
 isDotted closing = false
 isDotted (inPosition v) = false
 isDotted (inside h) = false
+isDotted (inEscape d q) = false
 isDotted (tailDue p n h) = false
 
 abbrev pub isOpened : Control → Bool
@@ -38,6 +39,7 @@ isOpened opened = true
 isOpened closing = false
 isOpened (inPosition v) = false
 isOpened (inside h) = false
+isOpened (inEscape d q) = false
 isOpened (tailDue p n h) = false
 
 -- what a byte says that leads behind what a step takes: `*` follows dots or an opening bracket, and a position is whole before the byte
@@ -50,6 +52,7 @@ takenBehind opened = every
 takenBehind closing = keep
 takenBehind (inPosition v) = position v
 takenBehind (inside h) = keep
+takenBehind (inEscape d q) = keep
 takenBehind (tailDue p n h) = keep
 
 -- what the byte says that leads from the first control state to the second
@@ -63,6 +66,7 @@ event c opened = elim (isDotted c || isOpened c) [ true ↦ keep | false ↦ beg
 event c closing = takenBehind c
 event c (inPosition v) = keep
 event c (inside h) = elim (isOpened c) [ true ↦ keep | false ↦ letter ]
+event c (inEscape d q) = letter
 event c (tailDue p n h) = letter
 
 -- a step, and the place in the query of the `.` or `[` that begins it

@@ -1,5 +1,5 @@
 -- The verdict by computing is the one that the grounds say, and no other; the steps by computing are the tree's. Assumes nothing.
-use mathlib.Core.Path.{_≡_, refl, ap, sym, subst, _∙_}
+use mathlib.Core.Path.{_≡_, refl, ap, ap₂, sym, subst, _∙_}
 use mathlib.Core.List.{List, [], _∷_, _++_, map}
 use mathlib.Core.Bool.{Bool, true, false, true≢false}
 use mathlib.Core.Logic.{_↔_}
@@ -14,27 +14,29 @@ use Rattle.encoding.specs.Prefix.{DeadPlace}
 use Rattle.encoding.specs.PrefixLaws.{dead-place-unique}
 use Rattle.encoding.specs.Verdict
 use Rattle.encoding.specs.Verdict.{Verdict, refused}
-use Rattle.query.specs.Grammar.{Spaced, Query, QueryText, putSpaced, putQuery, text, segmentStep, stepsOf}
+use Rattle.query.specs.Grammar.{Spaced, Query, QueryText, putSpaced, putQuery, text, stepsOf}
 use Rattle.query.specs.Steps.{Step}
 use Rattle.query.specs.Machine.{root}
 use Rattle.query.specs.Read.{Placed, named, Reading, good, reading, stepsRead}
 use Rattle.query.specs.Append.{append-spaced}
 use Rattle.query.specs.Text.{placed, reads-text}
+use Rattle.query.specs.NamesLaws.{written-decoded}
 use Rattle.query.specs.Sound.{sound}
 use Rattle.query.specs.Place.{Tells, well, ill, tells, accepts-text, dead-place}
-use Rattle.query.specs.Verdict.{maxQueryBytes, maxSteps, stepsIn, placeOf, counted, judged, queryVerdict, QuerySays, taken, long, wrong, many}
+use Rattle.query.specs.Verdict.{maxQueryBytes, maxSteps, decodedStep, stepsIn, placeOf, counted, judged, queryVerdict}
+use Rattle.query.specs.Verdict.{QuerySays, taken, long, wrong, many}
 
 -- the steps
 
-steps-placed : (t : Query) (n : ℕ) → map (λ (x : Placed). x .step) (placed n t) ≡ stepsOf t
+steps-placed : (t : Query) (n : ℕ) → map (λ (x : Placed). decodedStep (x .step)) (placed n t) ≡ stepsOf t
 unfolding placed stepsOf
 steps-placed [] n = refl
-steps-placed (x ∷ t) n = ap (λ (l : List Step). segmentStep (x .segment) ∷ l) (steps-placed t (n + length (putSpaced x [])))
+steps-placed (x ∷ t) n = ap₂ (λ (y : Step) (l : List Step). y ∷ l) (written-decoded (x .segment)) (steps-placed t (n + length (putSpaced x [])))
 
 -- the steps of a query's text are those of its tree
 pub stepsIn-text : (t : Query) → stepsIn (text t) ≡ stepsOf t
 unfolding stepsIn
-stepsIn-text t = ap (λ (r : Reading). map (λ (x : Placed). x .step) (stepsRead r)) (reads-text t) ∙ steps-placed t 1
+stepsIn-text t = ap (λ (r : Reading). map (λ (x : Placed). decodedStep (x .step)) (stepsRead r)) (reads-text t) ∙ steps-placed t 1
 
 -- two trees of one text have the same steps
 pub unambiguous : (t u : Query) → text t ≡ text u → stepsOf t ≡ stepsOf u

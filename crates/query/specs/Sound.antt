@@ -1,7 +1,7 @@
 -- What the machine accepts is the text of a query: `Rest c s`, that s completes a query from the control state c,
 -- goes back over each rule of the tables, from the last byte to the first. Assumes nothing.
 use mathlib.Core.Path.{_≡_, refl, subst}
-use mathlib.Core.List.{List, [], _∷_}
+use mathlib.Core.List.{List, [], _∷_, _++_, map}
 use mathlib.Core.Bool.{Bool, true, false}
 use Prim.Native.Nat.{ℕ, zero, suc, _+_, _*_, _≤_, _<_}
 use native.Mathlib.Omega.{arith}
@@ -10,16 +10,22 @@ use Rattle.encoding.specs.Bytes as B
 use Rattle.encoding.specs.Bytes.{In, putIn, Blank, Blanks, blankByte, putBlanks}
 use Rattle.encoding.specs.BytesLaws.{make, from-low, to-high, Then, then}
 use Rattle.encoding.specs.Decimal.{readOn}
+use Rattle.encoding.specs.Hex as H
+use Rattle.encoding.specs.Hex.{hexByte}
 use Rattle.encoding.specs.Utf8 as U
 use Rattle.encoding.specs.Utf8.{Wide, putWide, anyTail, secondLow, secondHigh}
 use Rattle.encoding.specs.Utf8Laws.{Tails}
+use Rattle.query.specs.Escapes as E
+use Rattle.query.specs.Escapes.{Escape, escapeByte, NotD, notDByte, D, dByte, EightToB, eightToBByte, cToFByte, HexChar, putHexChar}
 use Rattle.query.specs.Grammar as G
 use Rattle.query.specs.Grammar.{First, Later, Quote, Char, quoteByte, positionOf, maxPosition, Short, Inner, Depth, Segment, Query, QueryText}
 use Rattle.query.specs.Grammar.{putFirst, putLaters, putChar, putChars, putShort, putInner, putSegment, putSpaced, putQuery, text}
 use Rattle.query.specs.Machine as M
 use Rattle.query.specs.Machine.{Home, short, quoted, Control, root, done, gap, opened, closing}
-use Rattle.query.specs.Machine.{inPosition, inside, tailDue, State, dead, at}
+use Rattle.query.specs.Machine.{Due, kind, behindD, digits, highDigits, lowBackslash, lowU, lowD, lowDigit}
+use Rattle.query.specs.Machine.{inPosition, inside, inEscape, tailDue, State, dead, at}
 use Rattle.query.specs.Machine.{Rule, range, only, wideRules, letterRules, firstRules, stepRules, beginRules, dotRules, innerRules, charRules}
+use Rattle.query.specs.Machine.{hexRules, escapeRules}
 use Rattle.query.specs.Machine.{ruleIf, fits, digitRules, moreDigits, rules, takes, pick, step, run, final, accept, start}
 use Rattle.query.specs.Positions.{fits-within}
 
@@ -57,6 +63,53 @@ abbrev Inside : Home → List ℕ → Type 0
 Inside short = Shorthand
 Inside (quoted q) = Quoted q
 
+-- in an escape
+
+-- what is written as one byte, and then L
+data Writes {A : Type 0} (f : A → ℕ) (L : List ℕ → Type 0) : List ℕ → Type 0 where
+  writes : {s : List ℕ} (x : A) → L s → Writes f L (f x ∷ s)
+
+-- this byte, and then L
+data Byte (b : ℕ) (L : List ℕ → Type 0) : List ℕ → Type 0 where
+  byte : {s : List ℕ} → L s → Byte b L (b ∷ s)
+
+-- so many hexadecimal digits, and then L
+abbrev HexDigits : ℕ → (List ℕ → Type 0) → List ℕ → Type 0
+HexDigits zero L = L
+HexDigits (suc n) L = Writes hexByte (HexDigits n L)
+
+abbrev LowDigit : Quote → List ℕ → Type 0
+LowDigit q = Writes cToFByte (HexDigits 2 (Quoted q))
+
+abbrev LowD : Quote → List ℕ → Type 0
+LowD q = Writes dByte (LowDigit q)
+
+abbrev LowHalf : Quote → List ℕ → Type 0
+LowHalf q = Byte 0x5C (Byte 0x75 (LowD q))
+
+data BehindD (q : Quote) : List ℕ → Type 0 where
+  below : {u : List ℕ} (y : In 0x30 0x37) → HexDigits 2 (Quoted q) u → BehindD q (y .byte ∷ u)
+  high : {u : List ℕ} (y : EightToB) → HexDigits 2 (LowHalf q) u → BehindD q (eightToBByte y ∷ u)
+
+data BehindU (q : Quote) : List ℕ → Type 0 where
+  hex-char : {u : List ℕ} (x : HexChar) → Quoted q u → BehindU q (putHexChar x u)
+
+data BehindBackslash (q : Quote) : List ℕ → Type 0 where
+  own : {u : List ℕ} → Quoted q u → BehindBackslash q (quoteByte q ∷ u)
+  escaped : {u : List ℕ} (e : Escape) → Quoted q u → BehindBackslash q (escapeByte e ∷ u)
+  unicode : {u : List ℕ} → BehindU q u → BehindBackslash q (0x75 ∷ u)
+
+abbrev Escaped : Due → Quote → List ℕ → Type 0
+Escaped kind q = BehindBackslash q
+Escaped M.first q = BehindU q
+Escaped behindD q = BehindD q
+Escaped (digits n) q = HexDigits (suc n) (Quoted q)
+Escaped (highDigits n) q = HexDigits (suc n) (LowHalf q)
+Escaped lowBackslash q = LowHalf q
+Escaped lowU q = Byte 0x75 (LowD q)
+Escaped lowD q = LowD q
+Escaped lowDigit q = LowDigit q
+
 data Root : List ℕ → Type 0 where
   begins : (t : Query) → Root (0x24 ∷ putQuery t [])
 
@@ -69,6 +122,7 @@ Rest opened = Opened
 Rest closing = Closing
 Rest (inPosition v) = Digits v
 Rest (inside h) = Inside h
+Rest (inEscape d q) = Escaped d q
 Rest (tailDue p n h) = Then (secondLow p) (secondHigh p) (Tails n (Inside h))
 
 abbrev RestOf : State → List ℕ → Type 0
@@ -268,6 +322,12 @@ quote-quoted : (q : Quote) (s : List ℕ) → Closing s → Quoted q (quoteByte 
 unfolding putChars
 quote-quoted q s x = chars [] x
 
+escape-quoted : (q : Quote) (s : List ℕ) → BehindBackslash q s → Quoted q (0x5C ∷ s)
+unfolding putChar
+escape-quoted q s (own {u} x) = char-quoted q G.own u x
+escape-quoted q s (escaped {u} e x) = char-quoted q (G.escaped e) u x
+escape-quoted q s (unicode (hex-char {u} y x)) = char-quoted q (G.unicode y) u x
+
 back-quoted : (q : Quote) → Backs (Quoted q) (rules (inside (quoted q)))
 unfolding putChar
 back-quoted q =
@@ -275,9 +335,68 @@ back-quoted q =
       (λ b s x. char-quoted q (G.low b) s x),
       (
         (λ b s x. char-quoted q (G.mid b) s x),
-        ((λ b s x. char-quoted q (G.high b) s x), (one (quoteByte q) closing (Quoted q) (quote-quoted q), tt)),
+        (
+          (λ b s x. char-quoted q (G.high b) s x),
+          (one (quoteByte q) closing (Quoted q) (quote-quoted q), (one 0x5C (inEscape kind q) (Quoted q) (escape-quoted q), tt)),
+        ),
       ),
     )
+
+-- escapes
+
+back-hex : (c : Control) → Backs (Writes hexByte (Rest c)) (hexRules c)
+back-hex c = ((λ b s x. writes (H.digit b) x), ((λ b s x. writes (H.upper b) x), ((λ b s x. writes (H.lower b) x), tt)))
+
+module _ (q : Quote) where
+  -- a backslash and one byte
+  back-simple : (es : List Escape) (rs : List Rule) → Backs (BehindBackslash q) rs →
+      Backs (BehindBackslash q) (map (λ (e : Escape). only (escapeByte e) (inside (quoted q))) es ++ rs)
+  back-simple [] rs r = r
+  back-simple (e ∷ es) rs r = (one (escapeByte e) (inside (quoted q)) (BehindBackslash q) (λ s x. escaped e x), back-simple es rs r)
+
+  -- the first digit behind `\u`
+
+  usual : (x : NotD) (s : List ℕ) → HexDigits 3 (Quoted q) s → BehindU q (notDByte x ∷ s)
+  unfolding putHexChar
+  usual x s (writes y (writes z (writes w r))) = hex-char (E.usual x y z w) r
+
+  behind-d : (x : D) (s : List ℕ) → BehindD q s → BehindU q (dByte x ∷ s)
+  unfolding putHexChar
+  behind-d x s (below y (writes z (writes w r))) = hex-char (E.below x y z w) r
+  behind-d x s (high y (writes z (writes w (byte (byte (writes x′ (writes y′ (writes z′ (writes w′ r))))))))) =
+      hex-char (E.pair (x, y, z, w) (x′, y′, z′, w′)) r
+
+  back-d : Backs (BehindU q) (only 0x44 (inEscape behindD q) ∷ only 0x64 (inEscape behindD q) ∷ [])
+  back-d = (one 0x44 (inEscape behindD q) (BehindU q) (behind-d E.upper), (one 0x64 (inEscape behindD q) (BehindU q) (behind-d E.lower), tt))
+
+  back-escape : (x : Due) → Backs (Escaped x q) (escapeRules x q)
+  back-escape kind =
+      let others : List Rule = only (quoteByte q) (inside (quoted q)) ∷ only 0x75 (inEscape M.first q) ∷ [] in
+      back-simple (E.backspace ∷ E.form ∷ E.line ∷ E.carriage ∷ E.tabulator ∷ E.slash ∷ E.backslash ∷ []) others (
+        one (quoteByte q) (inside (quoted q)) (BehindBackslash q) (λ s x. own x),
+        (one 0x75 (inEscape M.first q) (BehindBackslash q) (λ s x. unicode x), tt),
+      )
+  back-escape M.first = (
+    (λ b. usual (E.digit b)),
+    (
+      (λ b. usual (E.upper-a-c b)),
+      (
+        (λ b. usual (E.upper-e-f b)),
+        ((λ b. usual (E.lower-a-c b)), ((λ b. usual (E.lower-e-f b)), back-d)),
+      ),
+    ),
+  )
+  back-escape behindD =
+      ((λ b s x. below b x), ((λ b s x. high (E.digit b) x), ((λ b s x. high (E.upper b) x), ((λ b s x. high (E.lower b) x), tt))))
+  back-escape (digits zero) = back-hex (inside (quoted q))
+  back-escape (digits (suc n)) = back-hex (inEscape (digits n) q)
+  back-escape (highDigits zero) = back-hex (inEscape lowBackslash q)
+  back-escape (highDigits (suc n)) = back-hex (inEscape (highDigits n) q)
+  back-escape lowBackslash = (one 0x5C (inEscape lowU q) (LowHalf q) (λ s x. byte x), tt)
+  back-escape lowU = (one 0x75 (inEscape lowD q) (Byte 0x75 (LowD q)) (λ s x. byte x), tt)
+  back-escape lowD =
+      (one 0x44 (inEscape lowDigit q) (LowD q) (λ s x. writes E.upper x), (one 0x64 (inEscape lowDigit q) (LowD q) (λ s x. writes E.lower x), tt))
+  back-escape lowDigit = ((λ b s x. writes (E.upper b) x), ((λ b s x. writes (E.lower b) x), tt))
 
 root-done : (s : List ℕ) → Done s → Root (0x24 ∷ s)
 root-done s (steps t) = begins t
@@ -301,6 +420,7 @@ back (inPosition v) = back-blanks closing (Digits v) (only 0x5D done ∷ moreDig
 back (inside short) = back-first Shorthand (range 0x30 0x39 (inside short) ∷ beginRules) shorthand-first
     (shorthand-digit, widen Gap Shorthand beginRules (λ s x. done-shorthand s (gap-done s x)) back-gap)
 back (inside (quoted q)) = back-quoted q
+back (inEscape d q) = back-escape q d
 back (tailDue p zero h) = ((λ b s x. then b x), tt)
 back (tailDue p (suc n) h) = ((λ b s x. then b x), tt)
 
@@ -324,6 +444,7 @@ rest-nil closing e = absurd (to-T e)
 rest-nil (inPosition v) e = absurd (to-T e)
 rest-nil (inside short) e = done-shorthand [] over
 rest-nil (inside (quoted q)) e = absurd (to-T e)
+rest-nil (inEscape d q) e = absurd (to-T e)
 rest-nil (tailDue p n h) e = absurd (to-T e)
 
 rest : (st : State) (s : List ℕ) → accept (run st s) ≡ true → RestOf st s

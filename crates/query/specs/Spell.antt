@@ -9,15 +9,19 @@ use lib.ListN.{length, length-append}
 use Rattle.bits.specs.Truth.{of-T}
 use Rattle.encoding.specs.Bytes as B
 use Rattle.encoding.specs.Bytes.{In, Blank, Blanks, blankByte, putBlanks}
+use Rattle.encoding.specs.Hex as H
+use Rattle.encoding.specs.Hex.{Hex, hexByte}
 use Rattle.encoding.specs.Utf8 as U
 use Rattle.encoding.specs.Utf8.{Wide, Tail, putWide, Second, anyTail, afterE0, afterED, afterF0, afterF4, secondLow, secondHigh}
+use Rattle.query.specs.Escapes as E
+use Rattle.query.specs.Escapes.{Escape, escapeByte, NotD, notDByte, D, dByte, EightToB, eightToBByte, CToF, cToFByte, HexChar, putHexChar}
 use Rattle.query.specs.Grammar as G
-use Rattle.query.specs.Grammar.{First, Later, Quote, Char}
+use Rattle.query.specs.Grammar.{First, Later, Quote, quoteByte, Char}
 use Rattle.query.specs.Grammar.{putFirst, putLater, putLaters, putChar, putChars}
 use Rattle.query.specs.Machine as M
-use Rattle.query.specs.Machine.{Home, short, quoted}
-use Rattle.query.specs.Machine.{Control, root, done, gap, opened, closing, inPosition, inside, tailDue, State, dead, at, Rule, range}
-use Rattle.query.specs.Machine.{wideRules, firstRules, tailsDue, rules, step}
+use Rattle.query.specs.Machine.{Home, short, quoted, kind, behindD, digits, highDigits, lowBackslash, lowU, lowD, lowDigit}
+use Rattle.query.specs.Machine.{Control, root, done, gap, opened, closing, inPosition, inside, inEscape, tailDue, State, dead, at, Rule, range}
+use Rattle.query.specs.Machine.{wideRules, firstRules, hexRules, tailsDue, rules, step}
 use Rattle.query.specs.Read.{Event, keep, begin, letter, isDotted, isOpened, takenBehind, event, Placed, named, Reading, good, bad, note, reading}
 use Rattle.query.specs.MachineLaws.{hit, landing, leads-in}
 use Rattle.query.specs.Append.{append-later, append-char}
@@ -141,16 +145,113 @@ spells-laters [] = spells-nil (inside short)
 spells-laters (c ∷ cs) = rw (append-later c [] (putLaters cs []))
     (spells-append _ (inside short) _ (putLater c []) (putLaters cs []) (spells-later c) (spells-laters cs))
 
+-- escapes
+
+-- a hexadecimal digit, and then letters
+spells-hex : (c k l : Control) → rules c ≡ hexRules k → event c k ≡ letter → (x : Hex) (w : List ℕ) → Spells k w l → Spells c (hexByte x ∷ w) l
+unfolding landing
+spells-hex c k l e f (H.digit x) w g = spells-cons c k l (x .byte) w (leads-in c x (at k) (rw e refl)) f g
+spells-hex c k l e f (H.upper x) w g = spells-cons c k l (x .byte) w (leads-in c x (at k) (rw e refl)) f g
+spells-hex c k l e f (H.lower x) w g = spells-cons c k l (x .byte) w (leads-in c x (at k) (rw e refl)) f g
+
+-- either D
+leads-d : (c k : Control) → step (at c) 0x44 ≡ at k → step (at c) 0x64 ≡ at k → (x : D) → step (at c) (dByte x) ≡ at k
+leads-d c k e f E.upper = e
+leads-d c k e f E.lower = f
+
+module _ (q : Quote) where
+  leads-not-d : (x : NotD) → step (at (inEscape M.first q)) (notDByte x) ≡ at (inEscape (digits 2) q)
+  unfolding landing
+  leads-not-d (E.digit x) = leads-in (inEscape M.first q) x _ refl
+  leads-not-d (E.upper-a-c x) = leads-in (inEscape M.first q) x _ refl
+  leads-not-d (E.upper-e-f x) = leads-in (inEscape M.first q) x _ refl
+  leads-not-d (E.lower-a-c x) = leads-in (inEscape M.first q) x _ refl
+  leads-not-d (E.lower-e-f x) = leads-in (inEscape M.first q) x _ refl
+
+  leads-high : (y : EightToB) → step (at (inEscape behindD q)) (eightToBByte y) ≡ at (inEscape (highDigits 1) q)
+  unfolding landing
+  leads-high (E.digit y) = leads-in (inEscape behindD q) y _ refl
+  leads-high (E.upper y) = leads-in (inEscape behindD q) y _ refl
+  leads-high (E.lower y) = leads-in (inEscape behindD q) y _ refl
+
+  leads-low : (y : CToF) → step (at (inEscape lowDigit q)) (cToFByte y) ≡ at (inEscape (digits 1) q)
+  unfolding landing
+  leads-low (E.upper y) = leads-in (inEscape lowDigit q) y _ refl
+  leads-low (E.lower y) = leads-in (inEscape lowDigit q) y _ refl
+
+  -- the last two digits
+  spells-two : (z w : Hex) → Spells (inEscape (digits 1) q) (hexByte z ∷ hexByte w ∷ []) (inside (quoted q))
+  spells-two z w =
+      spells-hex _ (inEscape (digits 0) q) _ refl refl z _ (spells-hex _ (inside (quoted q)) _ refl refl w [] (spells-nil (inside (quoted q))))
+
+  spells-low : (x : D) (y : CToF) (z w : Hex) →
+      Spells (inEscape lowBackslash q) (0x5C ∷ 0x75 ∷ dByte x ∷ cToFByte y ∷ hexByte z ∷ hexByte w ∷ []) (inside (quoted q))
+  unfolding step
+  spells-low x y z w =
+      spells-cons _ (inEscape lowU q) _ 0x5C _ refl refl
+      (spells-cons _ (inEscape lowD q) _ 0x75 _ refl refl
+      (spells-cons _ (inEscape lowDigit q) _ (dByte x) _ (leads-d (inEscape lowD q) (inEscape lowDigit q) refl refl x) refl
+      (spells-cons _ (inEscape (digits 1) q) _ (cToFByte y) _ (leads-low y) refl (spells-two z w))))
+
+  spells-hex-char : (x : HexChar) → Spells (inEscape M.first q) (putHexChar x []) (inside (quoted q))
+  unfolding putHexChar landing step
+  spells-hex-char (E.usual x y z w) =
+      spells-cons _ (inEscape (digits 2) q) _ (notDByte x) _ (leads-not-d x) refl
+      (spells-hex _ (inEscape (digits 1) q) _ refl refl y _ (spells-two z w))
+  spells-hex-char (E.below x y z w) =
+      spells-cons _ (inEscape behindD q) _ (dByte x) _ (leads-d (inEscape M.first q) (inEscape behindD q) refl refl x) refl
+      (spells-cons _ (inEscape (digits 1) q) _ (y .byte) _ (leads-in (inEscape behindD q) y _ refl) refl (spells-two z w))
+  spells-hex-char (E.pair (x, y, z, w) (x′, y′, z′, w′)) =
+      spells-cons _ (inEscape behindD q) _ (dByte x) _ (leads-d (inEscape M.first q) (inEscape behindD q) refl refl x) refl
+      (spells-cons _ (inEscape (highDigits 1) q) _ (eightToBByte y) _ (leads-high y) refl
+      (spells-hex _ (inEscape (highDigits 0) q) _ refl refl z _
+      (spells-hex _ (inEscape lowBackslash q) _ refl refl w _ (spells-low x′ y′ z′ w′))))
+
+-- the backslash and what stands behind it
+
+leads-backslash : (q : Quote) → step (at (inside (quoted q))) 0x5C ≡ at (inEscape kind q)
+unfolding step
+leads-backslash G.single = refl
+leads-backslash G.double = refl
+
+leads-own : (q : Quote) → step (at (inEscape kind q)) (quoteByte q) ≡ at (inside (quoted q))
+unfolding step
+leads-own G.single = refl
+leads-own G.double = refl
+
+leads-escape : (q : Quote) (e : Escape) → step (at (inEscape kind q)) (escapeByte e) ≡ at (inside (quoted q))
+unfolding step
+leads-escape q E.backspace = refl
+leads-escape q E.form = refl
+leads-escape q E.line = refl
+leads-escape q E.carriage = refl
+leads-escape q E.tabulator = refl
+leads-escape q E.slash = refl
+leads-escape q E.backslash = refl
+
+leads-unicode : (q : Quote) → step (at (inEscape kind q)) 0x75 ≡ at (inEscape M.first q)
+unfolding step
+leads-unicode G.single = refl
+leads-unicode G.double = refl
+
+module _ (q : Quote) where
+  spells-escape : (b : ℕ) (k : Control) (w : List ℕ) → step (at (inEscape kind q)) b ≡ at k → event (inEscape kind q) k ≡ letter →
+      Spells k w (inside (quoted q)) → Spells (inside (quoted q)) (0x5C ∷ b ∷ w) (inside (quoted q))
+  spells-escape b k w e f g =
+      spells-cons _ (inEscape kind q) _ 0x5C _ (leads-backslash q) refl (spells-cons (inEscape kind q) k _ b w e f g)
+
 pub spells-char : (q : Quote) (c : Char q) → Spells (inside (quoted q)) (putChar c []) (inside (quoted q))
 unfolding putChar landing
 spells-char G.single (G.low x) = spells-byte _ _ x refl refl
 spells-char G.single (G.mid x) = spells-byte _ _ x refl refl
 spells-char G.single (G.high x) = spells-byte _ _ x refl refl
-spells-char G.single (Char.wide p) = spells-wide (inside (quoted G.single)) (quoted G.single) _ refl p
 spells-char G.double (G.low x) = spells-byte _ _ x refl refl
 spells-char G.double (G.mid x) = spells-byte _ _ x refl refl
 spells-char G.double (G.high x) = spells-byte _ _ x refl refl
-spells-char G.double (Char.wide p) = spells-wide (inside (quoted G.double)) (quoted G.double) _ refl p
+spells-char q (Char.wide p) = spells-wide (inside (quoted q)) (quoted q) _ refl p
+spells-char q G.own = spells-escape q (quoteByte q) _ [] (leads-own q) refl (spells-nil (inside (quoted q)))
+spells-char q (G.escaped e) = spells-escape q (escapeByte e) _ [] (leads-escape q e) refl (spells-nil (inside (quoted q)))
+spells-char q (G.unicode x) = spells-escape q 0x75 _ _ (leads-unicode q) refl (spells-hex-char q x)
 
 pub spells-chars : (q : Quote) (cs : List (Char q)) → Spells (inside (quoted q)) (putChars cs []) (inside (quoted q))
 unfolding putChars
@@ -170,6 +271,7 @@ event-alike c d p q r opened = ap₂ (λ (x y : Bool). elim (x || y) as (λ _. E
 event-alike c d p q r closing = r
 event-alike c d p q r (inPosition v) = refl
 event-alike c d p q r (inside h) = ap (λ (x : Bool). elim x as (λ _. Event) [ true ↦ keep | false ↦ letter ]) q
+event-alike c d p q r (inEscape z m) = refl
 event-alike c d p q r (tailDue z m h) = refl
 
 pub alike : (c d : Control) → isDotted c ≡ isDotted d → isOpened c ≡ isOpened d → takenBehind c ≡ takenBehind d → (n b : ℕ) (s : List ℕ) →

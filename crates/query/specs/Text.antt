@@ -1,4 +1,4 @@
--- What is read of a query's text: the steps of its tree, each at its place. Assumes nothing.
+-- What is read of a query's text: the steps of its tree as they are written, each at its place. Assumes nothing.
 use mathlib.Core.Path.{_≡_, refl, ap, _∙_}
 use mathlib.Core.List.{List, [], _∷_, _++_}
 use mathlib.Core.Bool.{Bool}
@@ -11,8 +11,9 @@ use Rattle.encoding.specs.BytesLaws.{size, length-blanks}
 use Rattle.query.specs.Grammar as G
 use Rattle.query.specs.Grammar.{First, Later, Quote, quoteByte, Short, Inner, Depth, Segment, Query}
 use Rattle.query.specs.Grammar.{putFirst, putLaters, putChars, putShort, putInner, putDots, putDeep, putSegment, putSpaced, putQuery}
-use Rattle.query.specs.Grammar.{putPosition, positionOf, text, isDeep, shortSelector, innerSelector, segmentStep}
+use Rattle.query.specs.Grammar.{putPosition, positionOf, text, isDeep}
 use Rattle.query.specs.Steps.{Selector}
+use Rattle.query.specs.Written.{shortWritten, innerWritten, segmentWritten}
 use Rattle.query.specs.Machine as M
 use Rattle.query.specs.Machine.{short, quoted, root, done, gap, opened, closing, inPosition, inside, at, step}
 use Rattle.query.specs.Read as R
@@ -81,8 +82,8 @@ shorthand-append x cs u = ap (putFirst x) (append-laters cs [] u) ∙ append-fir
 
 reads-short : (d : Depth) (x : Short) (n : ℕ) (t : Query) (l : List Placed) →
     reading done (n + length (putShort x [])) (putQuery t []) ≡ good (named [] l) →
-    reading (M.dotted d) n (putShort x (putQuery t [])) ≡ good (taking (shortSelector x) l)
-unfolding putShort shortSelector step
+    reading (M.dotted d) n (putShort x (putQuery t [])) ≡ good (taking (shortWritten x) l)
+unfolding putShort shortWritten step
 reads-short d Short.star n t l e =
     turn (M.dotted d) done n 0x2A (putQuery t []) refl ∙ ap (note R.every n 0x2A) (moved done (suc n) (n + 1) (putQuery t []) (omega arith) ∙ e)
 reads-short d (G.shorthand x cs) n t l e =
@@ -112,8 +113,8 @@ behind-position v (B.return ∷ w) n u = reads-behind v n 0x0D _ (λ p l h m. om
 
 reads-inner : (i : Inner) (n : ℕ) (w : Blanks) (u : List ℕ) (l : List Placed) →
     reading closing (n + length (putInner i [])) (putBlanks w (0x5D ∷ u)) ≡ good (named [] l) →
-    reading opened n (putInner i (putBlanks w (0x5D ∷ u))) ≡ good (taking (innerSelector i) l)
-unfolding putInner innerSelector step
+    reading opened n (putInner i (putBlanks w (0x5D ∷ u))) ≡ good (taking (innerWritten i) l)
+unfolding putInner innerWritten step
 reads-inner Inner.star n w u l e =
     turn opened closing n 0x2A (putBlanks w (0x5D ∷ u)) refl ∙ ap (note R.every n 0x2A) (moved closing (suc n) (n + 1) _ (omega arith) ∙ e)
 reads-inner (G.quoted q cs) n w u l e =
@@ -139,10 +140,10 @@ reads-closing w n u r e =
 
 reads-segment : (g : Segment) (n : ℕ) (t : Query) (l : List Placed) →
     reading done (n + length (putSegment g [])) (putQuery t []) ≡ good (named [] l) →
-    reading gap n (putSegment g (putQuery t [])) ≡ good (named [] (record { place = n; step = segmentStep g } ∷ l))
-unfolding putSegment segmentStep
+    reading gap n (putSegment g (putQuery t [])) ≡ good (named [] (record { place = n; step = segmentWritten g } ∷ l))
+unfolding putSegment segmentWritten
 reads-segment (G.dotted d x) n t l e =
-    reads-dots d n _ (shortSelector x) l
+    reads-dots d n _ (shortWritten x) l
     (reads-short d x (n + length (putDots d [])) t l
     (moved done _ (n + length (putDots d (putShort x []))) _ (omega (arith, size (putDots d) (append-dots d) (putShort x []))) ∙ e))
 reads-segment (G.bracketed d w i w′) n t l e =
@@ -156,16 +157,16 @@ reads-segment (G.bracketed d w i w′) n t l e =
       length-blanks w inner,
       size (putInner i) (append-inner i) (putBlanks w′ (0x5D ∷ [])),
     ) in
-    reads-bracket d n _ (innerSelector i) l
+    reads-bracket d n _ (innerWritten i) l
     (reads-blanks opened blank-opened refl w k _ ∙
     reads-inner i (k + length w) w′ (putQuery t []) l
     (reads-closing w′ (k + length w + length (putInner i [])) (putQuery t []) _ (moved done _ _ (putQuery t []) sum ∙ e)))
 
--- the steps of a query whose first byte after the `$` stands at n, each at its place
+-- the steps of a query whose first byte after the `$` stands at n, as they are written, each at its place
 unfoldable pub placed : ℕ → Query → List Placed
-unfolding segmentStep
+unfolding segmentWritten
 placed n [] = []
-placed n (x ∷ t) = record { place = n + length (x .before); step = segmentStep (x .segment) } ∷ placed (n + length (putSpaced x [])) t
+placed n (x ∷ t) = record { place = n + length (x .before); step = segmentWritten (x .segment) } ∷ placed (n + length (putSpaced x [])) t
 
 reads-begin : (w : Blanks) (g : Segment) (n : ℕ) (u : List ℕ) →
     reading done n (putBlanks w (putSegment g u)) ≡ reading gap n (putBlanks w (putSegment g u))
@@ -186,7 +187,7 @@ reads-query (x ∷ t) n =
     (moved done _ (n + length (putSpaced x [])) (putQuery t []) (omega (arith, length-blanks w (putSegment (x .segment) []))) ∙
     reads-query t (n + length (putSpaced x [])))
 
--- what is read of a text is its tree's steps
+-- what is read of a text is its tree's steps, as they are written
 pub reads-text : (t : Query) → reading root 0 (text t) ≡ good (named [] (placed 1 t))
 unfolding text step
 reads-text t = kept root done 0 0x24 (putQuery t []) refl refl ∙ reads-query t 1

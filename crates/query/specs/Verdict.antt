@@ -7,10 +7,12 @@ use Prim.Native.Nat.{ℕ, _+_, _≤_, _<_}
 use lib.Dec.{leb}
 use lib.ListN.{length, getD}
 use Rattle.encoding.specs.Prefix.{DeadPlace}
+use Rattle.encoding.specs.Unescape.{spelt}
 use Rattle.encoding.specs.Verdict
 use Rattle.encoding.specs.Verdict.{Verdict, refused}
 use Rattle.query.specs.Grammar.{Spaced, Query, QueryText, text}
-use Rattle.query.specs.Steps.{Step}
+use Rattle.query.specs.Steps.{Selector, Step}
+use Rattle.query.specs.Steps as S
 use Rattle.query.specs.Machine.{root}
 use Rattle.query.specs.Read.{Placed, Reading, good, bad, reading, stepsRead}
 
@@ -20,10 +22,22 @@ maxQueryBytes = 1024
 abbrev pub maxSteps : ℕ
 maxSteps = 16
 
+-- a step as it is written, with the code points of its name
+
+unfoldable pub decoded : Selector → Selector
+unfolding spelt
+decoded (S.name w) = S.name (spelt w)
+decoded S.every = S.every
+decoded (S.position j) = S.position j
+
+unfoldable pub decodedStep : Step → Step
+unfolding decoded
+decodedStep x = record { deep = x .deep; selector = decoded (x .selector) }
+
 -- the steps of a query; none where it is not in the grammar
 unfoldable pub stepsIn : List ℕ → List Step
-unfolding reading
-stepsIn s = map (λ x. x .step) (stepsRead (reading root 0 s))
+unfolding reading decodedStep
+stepsIn s = map (λ x. decodedStep (x .step)) (stepsRead (reading root 0 s))
 
 -- the place of the step number k, counted from 0
 abbrev pub placeOf : ℕ → List Placed → ℕ

@@ -19,14 +19,16 @@ use Rattle.query.specs.Grammar as G
 use Rattle.query.specs.Grammar.{First, Later, Char, Depth, Quote, quoteByte, putFirst, putLater, putLaters, putChar, putChars, putShort}
 use Rattle.query.specs.Append.{append-chars, append-short, laters-more, chars-more}
 use Rattle.query.specs.Machine as M
-use Rattle.query.specs.Machine.{Control, done, inside, short, quoted, dead, Rule, range, firstRules, beginRules, dotRule, pick, step}
+use Rattle.query.specs.Machine.{Control, done, inside, short, quoted, inEscape, kind, dead, Rule, range, firstRules, beginRules, dotRule, pick, step}
 use Rattle.query.specs.Read.{reading}
 use Rattle.query.specs.Spell.{spell, spells-chars, alike}
 use Rattle.query.specs.Text.{spells-shorthand}
-use Rattle.query.specs.At.{end-at, stop-at}
+use Rattle.query.specs.At.{byte-is, end-at, stop-at, bad-at}
 use Rattle.query.specs.MachineLaws.{miss, miss-only, landing, leads, allParted, passes}
+use Rattle.query_escapes.specs.Scans.{Moved, Escaped}
+use Rattle.query_escapes.specs.ScansLaws.{stayed, went-on, passed-on}
 use Rattle.query_lexer.specs.Scans.{NameByteIs, digit, upper, underscore, lower, below-digits, below-upper, between-cases, above-lower}
-use Rattle.query_lexer.specs.Scans.{spelt, NoName, Moved, NameChar, FirstChar, ShortName, QuotedChar, QuotedName}
+use Rattle.query_lexer.specs.Scans.{spelt, NoName, NameChar, FirstChar, ShortName, QuotedChar, QuotedName}
 use Rattle.query_lexer.proofs.Letters.{spelt-put, spelt-bad}
 use Rattle.query_lexer.proofs.Wides.{wide-dotted, wide-short, wide-quoted, wide-dead}
 
@@ -86,12 +88,6 @@ first-stands q i r f (G.digit b) e =
     let z = byte-of q i (b .byte) (drop r q) e in absurd (f (omega (arith, L.from-low b)) (omega (arith, L.to-high b)))
 
 module _ (q : List ℕ) (i : ℕ) (h : i < length q) where
-  went-on : Moved q i true (i + 1)
-  went-on = record { within = omega arith; on = λ e. omega arith }
-
-  stayed : Moved q i false i
-  stayed = record { within = omega arith; on = λ e. absurd (false≢true e) }
-
   scanned-moves : {ok : Bool} {r : ℕ} → Scanned C.decoding q i ok r → Moved q i ok r
   scanned-moves s = record { within = scanned-within s (omega arith); on = λ e. scanned-moved (reads-at s) e }
 
@@ -110,7 +106,7 @@ module _ (q : List ℕ) (i : ℕ) (h : i < length q) where
   name-on x e =
       let (c, t) = name-stands (subst (NameByteIs (getD q i 0)) e x) (drop (i + 1) q) in
       record {
-        moved = went-on;
+        moved = went-on h;
         stands = λ z. (c, t ∙ sym (byte-at q i h));
         no-first = λ z. absurd (true≢false z);
         dead = λ z. absurd (true≢false z);
@@ -121,7 +117,7 @@ module _ (q : List ℕ) (i : ℕ) (h : i < length q) where
   name-off x e w =
       let y = subst (NameByteIs (getD q i 0)) e x in
       record {
-        moved = stayed;
+        moved = stayed (omega arith);
         stands = λ z. absurd (false≢true z);
         no-first = λ z d n f. stop-at (M.dotted d) q i h (no-name d y w n);
         dead = λ z g. absurd (omega arith);
@@ -137,7 +133,7 @@ module _ (q : List ℕ) (i : ℕ) (h : i < length q) where
   -- a digit may not come first
   pub no-first-digit : 0x30 ≤ getD q i 0 → getD q i 0 ≤ 0x39 → FirstChar q i false i
   no-first-digit l u = record {
-    moved = stayed;
+    moved = stayed (omega arith);
     stands = λ z. absurd (false≢true z);
     dead = λ z d n. stop-at (M.dotted d) q i h (digit-dies d l u);
   }
@@ -238,38 +234,39 @@ unfolding landing
 control-dies G.single h = leads (inside (quoted G.single)) {lo = 0} {hi = 0x1F} (omega arith) (omega arith) dead refl
 control-dies G.double h = leads (inside (quoted G.double)) {lo = 0} {hi = 0x1F} (omega arith) (omega arith) dead refl
 
-backslash-dies : (x : Quote) {b : ℕ} → b ≡ 0x5C → step (M.at (inside (quoted x))) b ≡ dead
+backslash-leads : (x : Quote) {b : ℕ} → b ≡ 0x5C → step (M.at (inside (quoted x))) b ≡ M.at (inEscape kind x)
 unfolding step
-backslash-dies G.single e = rw e refl
-backslash-dies G.double e = rw e refl
+backslash-leads G.single e = rw e refl
+backslash-leads G.double e = rw e refl
 
-module _ (q : List ℕ) (i : ℕ) (h : i < length q) where
-  pub quoted-wide : {ok : Bool} {r : ℕ} → 0x80 ≤ getD q i 0 → Scanned C.decoding q i ok r → QuotedChar q i ok r
+module _ (q : List ℕ) (quote i : ℕ) (h : i < length q) where
+  pub quoted-wide : {ok : Bool} {r : ℕ} → 0x80 ≤ getD q i 0 → Scanned C.decoding q i ok r → QuotedChar q quote i ok r
   unfolding putChar
   quoted-wide w s = record {
     moved = scanned-moves q i h s;
-    stands = λ e x f. let p = scanned-whole s e in (Char.wide (p .0), p .1);
-    dead = λ e x f. wide-dead q (wide-quoted x) h w (reads-at s) e;
+    stands = λ e x z f. let p = scanned-whole s e in (Char.wide (p .0), p .1);
+    dead = λ e x z f. wide-dead q (wide-quoted x) h w (reads-at s) e;
   }
 
-  pub quoted-control : getD q i 0 < 0x20 → QuotedChar q i false i
+  pub quoted-control : getD q i 0 < 0x20 → QuotedChar q quote i false i
   quoted-control w = record {
-    moved = stayed q i h;
+    moved = stayed (omega arith);
     stands = λ e. absurd (subst T (sym e) tt);
-    dead = λ e x f. stop-at (inside (quoted x)) q i h (control-dies x w);
+    dead = λ e x z f. stop-at (inside (quoted x)) q i h (control-dies x w);
   }
 
-  pub quoted-backslash : getD q i 0 ≡ 0x5C → QuotedChar q i false i
-  quoted-backslash w = record {
-    moved = stayed q i h;
-    stands = λ e. absurd (subst T (sym e) tt);
-    dead = λ e x f. stop-at (inside (quoted x)) q i h (backslash-dies x w);
+  pub quoted-escape : {ok : Bool} {r : ℕ} → getD q i 0 ≡ 0x5C → Escaped q quote (i + 1) ok r → QuotedChar q quote i ok r
+  quoted-escape w s = record {
+    moved = passed-on (s .moved);
+    stands = λ e x z f. let (c, t) = s .stands e x z in (c, t ∙ sym (byte-is q i h w));
+    dead = λ e x z f. bad-at (inside (quoted x)) q i h (inEscape kind x) (backslash-leads x w) (s .dead e x z);
   }
 
-  pub quoted-letter : 0x20 ≤ getD q i 0 → getD q i 0 < 0x80 → (getD q i 0 ≡ 0x5C → ⊥) → QuotedChar q i true (i + 1)
+  pub quoted-letter : 0x20 ≤ getD q i 0 → getD q i 0 < 0x80 → (getD q i 0 ≡ 0x5C → ⊥) → QuotedChar q quote i true (i + 1)
   quoted-letter l u n = record {
-    moved = went-on q i h;
-    stands = λ e x f. let (c, t) = quoted-stands x (getD q i 0) l u n f (drop (i + 1) q) in (c, t ∙ sym (byte-at q i h));
+    moved = went-on h;
+    stands = λ e x z f.
+        let (c, t) = quoted-stands x (getD q i 0) l u n (λ y. f (y ∙ sym z)) (drop (i + 1) q) in (c, t ∙ sym (byte-at q i h));
     dead = λ e. absurd (subst T e tt);
   }
 
@@ -291,13 +288,13 @@ quoted-begins {q} {quote} {n} h =
     record { from = omega arith; within = h; stand = λ x e. ([], refl) }
 
 pub quoted-goes-on : {q : List ℕ} {quote n i : ℕ} {ok : Bool} {r : ℕ} → QuotedSoFar q quote n i → (getD q i 0 ≡ quote → ⊥) →
-    QuotedChar q i ok r → ok ≡ true → QuotedSoFar q quote n r
+    QuotedChar q quote i ok r → ok ≡ true → QuotedSoFar q quote n r
 quoted-goes-on {q} {quote} {n} {i} {ok} {r} s f x e =
     let m = x .moved .on e in
     record {
       from = omega (arith, s .from);
       within = x .moved .within;
-      stand = λ y z. let c = x .stands e y (λ w. f (w ∙ sym z)) in let d = s .stand y z in
+      stand = λ y z. let c = x .stands e y z f in let d = s .stand y z in
           (d .0 ++ c .0 ∷ [], chars-more (d .0) (c .0) (drop r q) ∙ ap (putChars (d .0)) (c .1) ∙ d .1);
     }
 
@@ -305,14 +302,14 @@ pub quoted-closes : {q : List ℕ} {quote n i : ℕ} → QuotedSoFar q quote n i
 quoted-closes s h e = record { within = s .within; closed = λ w. (s .from, h, e); stand = λ w. s .stand; reads = quoted-reads s }
 
 pub quoted-dead : {q : List ℕ} {quote n i : ℕ} {ok : Bool} {r : ℕ} → QuotedSoFar q quote n i → (getD q i 0 ≡ quote → ⊥) →
-    QuotedChar q i ok r → ok ≡ false → QuotedName q quote n ok r
+    QuotedChar q quote i ok r → ok ≡ false → QuotedName q quote n ok r
 quoted-dead {q} {quote} {n} {i} {ok} {r} s f x e =
     record {
       within = x .moved .within;
       closed = λ w. absurd (subst T (sym w ∙ e) tt);
       stand = λ w. absurd (subst T (sym w ∙ e) tt);
       reads = λ y z.
-          spelt-bad q (inside (quoted y)) (inside (quoted y)) n i r (quoted-reads s y z) (x .dead e y (λ w. f (w ∙ sym z))) ∙
+          spelt-bad q (inside (quoted y)) (inside (quoted y)) n i r (quoted-reads s y z) (x .dead e y z f) ∙
           ap (λ (b : Bool). spelt q (inside (quoted y)) n b r) (sym e);
     }
 

@@ -12,6 +12,7 @@ use Rattle.query.specs.Machine.{Control, dotted, opened, closing, inside, short
 use Rattle.query.specs.Read.{position, Reading, bad, note, reading}
 use Rattle.query.specs.Positions.{NoMore}
 use Rattle.query.specs.Spell.{spell}
+use Rattle.query_escapes.specs.Scans.{Moved}
 
 -- whether a byte is a blank
 pub data BlankIs (b : ℕ) : Bool → Type 0 where
@@ -50,11 +51,6 @@ pub record NoName (d : Depth) (b : ℕ) : Type 0 where
   pub no-star : b ≡ 0x2A → ⊥
   pub no-deeper : b ≡ deeperByte d → ⊥
 
--- a place in the query, beyond `at` where a scan went on
-pub record Moved (q : List ℕ) (at : ℕ) (ok : Bool) (r : ℕ) : Type 0 where
-  pub within : r ≤ length q
-  pub on : ok ≡ true → at < r
-
 -- one character of a shorthand name at `at`; not ok also where a byte below 80 ends the name
 pub record NameChar (q : List ℕ) (at : ℕ) (ok : Bool) (r : ℕ) : Type 0 where
   pub moved : Moved q at ok r
@@ -76,11 +72,11 @@ pub record ShortName (q : List ℕ) (at : ℕ) (ok : Bool) (r : ℕ) : Type 0 wh
   pub stands : ok ≡ true → (x : First) × (cs : List Later) × (putFirst x (putLaters cs (drop r q)) ≡ drop at q)
   pub reads : (d : Depth) → NoName d (getD q at 0) → reading (dotted d) at (drop at q) ≡ spelt q done at ok r
 
--- one character of a quoted name that is not its quote
-pub record QuotedChar (q : List ℕ) (at : ℕ) (ok : Bool) (r : ℕ) : Type 0 where
+-- one character, which is not its quote, of a name between two of `quote`
+pub record QuotedChar (q : List ℕ) (quote at : ℕ) (ok : Bool) (r : ℕ) : Type 0 where
   pub moved : Moved q at ok r
-  pub stands : ok ≡ true → (x : Quote) → (getD q at 0 ≡ quoteByte x → ⊥) → (c : Char x) × (putChar c (drop r q) ≡ drop at q)
-  pub dead : ok ≡ false → (x : Quote) → (getD q at 0 ≡ quoteByte x → ⊥) → reading (inside (quoted x)) at (drop at q) ≡ bad r
+  pub stands : ok ≡ true → (x : Quote) → quote ≡ quoteByte x → (getD q at 0 ≡ quote → ⊥) → (c : Char x) × (putChar c (drop r q) ≡ drop at q)
+  pub dead : ok ≡ false → (x : Quote) → quote ≡ quoteByte x → (getD q at 0 ≡ quote → ⊥) → reading (inside (quoted x)) at (drop at q) ≡ bad r
 
 -- the rest of a quoted name, up to its closing quote
 pub record QuotedName (q : List ℕ) (quote at : ℕ) (ok : Bool) (r : ℕ) : Type 0 where

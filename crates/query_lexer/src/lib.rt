@@ -151,11 +151,11 @@ pub fn shorthand(rows: &Rows, query: &[u8], at: usize) -> Scan
     Scan { ok: true, at: i }
 }
 
-// One character at `at` of a quoted name, where its quote does not stand: ok and the place after it, or not ok and the place of the dead
-// byte.
-fn quoted_char(rows: &Rows, query: &[u8], at: usize) -> Scan
+// One character at `at` of a name between two of `quote`, where its quote does not stand: ok and the place after it, or not ok and the place
+// of the dead byte.
+fn quoted_char(rows: &Rows, query: &[u8], quote: u8, at: usize) -> Scan
     requires { ⌜ (at < length (now query)) × RowTable (now rows) ⌝ }
-    ensures { λ r. ⌜ QuotedChar (now (query .entry)) at (r .ok) (r .at) ⌝ }
+    ensures { λ r. ⌜ QuotedChar (now (query .entry)) quote at (r .ok) (r .at) ⌝ }
 {
     let b = query[at];
     if !encoding::narrow(rows, b) {
@@ -165,7 +165,7 @@ fn quoted_char(rows: &Rows, query: &[u8], at: usize) -> Scan
         return Scan { ok: false, at };
     }
     if b == BACKSLASH {
-        return Scan { ok: false, at };
+        return query_escapes::escaped(query, quote, at + 1);
     }
     Scan {
         ok: true,
@@ -184,7 +184,7 @@ pub fn quoted(rows: &Rows, query: &[u8], quote: u8, at: usize) -> Scan
         if query[i] == quote {
             return Scan { ok: true, at: i };
         }
-        let next = quoted_char(rows, query, i);
+        let next = quoted_char(rows, query, quote, i);
         if !next.ok {
             return next;
         }

@@ -13,6 +13,7 @@ use Rattle.query_steps.specs.declared.StepRead.the-variants.{Taken}
 use Rattle.query_steps.specs.declared.Taking.{Taking}
 use Rattle.query_steps.specs.declared.Taking.the-variants.{Every, Name, Position}
 use Rattle.query_parser.specs.declared.compiled.Compiled.{Compiled}
+use Rattle.query_parser.specs.declared.compiled.Entry.{Entry}
 use Rattle.query_parser.specs.declared.Outcome.{Outcome}
 use Rattle.bits.specs.Bits.{bit}
 use Rattle.bits.specs.Laws.{bit-zero}
@@ -27,11 +28,12 @@ use Rattle.query.specs.At.{end-at, stop-at, kept-at}
 use Rattle.query.specs.MachineLaws.{miss-only}
 use Rattle.query_steps.specs.Reader
 use Rattle.query_steps.specs.Reader.{readPlace, placedAt, Bounded, push, StepTaken, StepAt}
-use Rattle.query.specs.Verdict.{maxQueryBytes, maxSteps, stepsIn, placeOf, judged, queryVerdict}
+use Rattle.query.specs.Verdict.{maxQueryBytes, maxSteps, decodedStep, stepsIn, placeOf, judged, queryVerdict}
 use Rattle.query.specs.Says.{short-enough, too-long, few, too-many}
-use Rattle.query_parser.specs.Compiles.{Short}
+use Rattle.query_parser.specs.Compiles.{HeldTo, Stands, Decodes, Adds}
 use Rattle.query_parser.specs.Holds.{Holds, noSteps}
 use Rattle.query_parser.specs.Answer.{refusal, overflow, StepsFor, QueryRead}
+use Rattle.query_parser.proofs.Masks.{held-on}
 use Rattle.query_steps.proofs.StepRead.{the-type}
 
 abbrev pub refused-with : ℕ → ℕ → Compiled → Outcome
@@ -92,11 +94,11 @@ prepend-push l x (good a) = ap (λ (k : List Placed). good (named [] k)) (sym (a
 prepend-push l x (bad p) = refl
 
 abbrev stepsOf : List Placed → List Step
-stepsOf l = map (λ (x : Placed). x .step) l
+stepsOf l = map (λ (x : Placed). decodedStep (x .step)) l
 
-stepsOf-more : (l : List Placed) (x : Placed) → stepsOf (l ++ x ∷ []) ≡ stepsOf l ++ x .step ∷ []
+stepsOf-more : (l : List Placed) (x : Placed) → stepsOf (l ++ x ∷ []) ≡ stepsOf l ++ decodedStep (x .step) ∷ []
 stepsOf-more [] x = refl
-stepsOf-more (y ∷ l) x = ap (λ (k : List Step). y .step ∷ k) (stepsOf-more l x)
+stepsOf-more (y ∷ l) x = ap (λ (k : List Step). decodedStep (y .step) ∷ k) (stepsOf-more l x)
 
 placeOf-here : (l : List Placed) (x : Placed) (k : List Placed) → placeOf (length l) (l ++ x ∷ k) ≡ x .place
 placeOf-here [] x k = refl
@@ -108,126 +110,134 @@ length-steps (x ∷ l) = ap suc (length-steps l)
 
 -- refusals
 
-refused-answer : {q : List ℕ} {g p : ℕ} {a : Outcome} → queryVerdict q ≡ refused (suc g) p → a ≡ refusal (suc g) p → QueryRead q a
-refused-answer {q} {g} {p} {a} e f = record {
+refused-answer : {q names : List ℕ} {g p : ℕ} {a : Outcome} → queryVerdict q ≡ refused (suc g) p → a ≡ refusal (suc g) p → QueryRead q names a
+refused-answer {q} {names} {g} {p} {a} e f = record {
   ground = ap (λ (x : Outcome). x .ground) f ∙ sym (ap (λ (v : Verdict). v .ground) e);
   place = ap (λ (x : Outcome). x .place) f ∙ sym (ap (λ (v : Verdict). v .place) e);
-  steps = subst (λ (v : Verdict). StepsFor q (v .ground) (a .steps)) (sym e) (ap (λ (x : Outcome). x .steps) f);
+  steps = subst (λ (v : Verdict). StepsFor q names (v .ground) (a .steps)) (sym e) (ap (λ (x : Outcome). x .steps) f);
 }
 
-pub long-answer : {q : List ℕ} {a : Outcome} → maxQueryBytes < length q → a ≡ refusal 1 maxQueryBytes → QueryRead q a
+pub long-answer : {q names : List ℕ} {a : Outcome} → maxQueryBytes < length q → a ≡ refusal 1 maxQueryBytes → QueryRead q names a
 long-answer {q} h f = refused-answer (too-long q h) f
 
-bad-answer : {q : List ℕ} {p : ℕ} {a : Outcome} → length q ≤ maxQueryBytes → reading root 0 q ≡ bad p → a ≡ refusal 2 p → QueryRead q a
+bad-answer : {q names : List ℕ} {p : ℕ} {a : Outcome} → length q ≤ maxQueryBytes → reading root 0 q ≡ bad p → a ≡ refusal 2 p → QueryRead q names a
 unfolding judged
 bad-answer {q} l e f = refused-answer (short-enough q l ∙ ap judged e) f
 
 -- the first byte
 
-pub empty-answer : {q : List ℕ} {a : Outcome} → length q ≡ 0 → a ≡ refusal 2 0 → QueryRead q a
+pub empty-answer : {q names : List ℕ} {a : Outcome} → length q ≡ 0 → a ≡ refusal 2 0 → QueryRead q names a
 empty-answer {q} h f = bad-answer (omega arith) (end-at root q 0 (omega arith) refl) f
 
 no-root : (b : ℕ) → (b ≡ 0x24 → ⊥) → step (M.at root) b ≡ dead
 unfolding step pick
 no-root b f = miss-only 0x24 done [] b f
 
-pub other-answer : {q : List ℕ} {a : Outcome} → length q ≤ maxQueryBytes → (length q ≡ 0 → ⊥) → (getD q 0 0 ≡ 0x24 → ⊥) → a ≡ refusal 2 0 →
-    QueryRead q a
+pub other-answer : {q names : List ℕ} {a : Outcome} → length q ≤ maxQueryBytes → (length q ≡ 0 → ⊥) → (getD q 0 0 ≡ 0x24 → ⊥) → a ≡ refusal 2 0 →
+    QueryRead q names a
 other-answer {q} l n g f = bad-answer l (stop-at root q 0 (omega arith) (no-root (getD q 0 0) g)) f
 
--- the steps read so far, and the place where reading goes on
-pub record SoFar (q : List ℕ) (c : Compiled) (i : ℕ) : Type 0 where
+-- the steps read so far, with their names among the names, and the place where reading goes on
+pub record SoFar (q names : List ℕ) (c : Compiled) (i : ℕ) : Type 0 where
   pub short : length q ≤ maxQueryBytes
   pub within : i ≤ length q
   pub before : List Placed
-  pub held : Holds q (stepsOf before) (c .kinds) (c .operands)
+  pub held : HeldTo names i (stepsOf before) c
   pub reads : reading root 0 q ≡ prepend before (reading done i (drop i q))
 
 root-leads : step (M.at root) 0x24 ≡ M.at done
 unfolding step
 root-leads = refl
 
-holds-none : (q : List ℕ) → Holds q [] (noSteps .kinds) (noSteps .operands)
-holds-none q = record {
-  fits = record {
-    few = omega arith;
-    operands-length = refl;
-    order = λ i h. absurd (none-on i h);
-    within = λ i h. absurd (none-on i h);
-  };
-  count = refl;
-  deep = λ i. bit-zero i;
-  every = λ i. bit-zero i;
-  named = λ i. bit-zero i;
-  positioned = λ i. bit-zero i;
-  name = λ i h. absurd (none-on i h);
-  position = λ i h. absurd (none-on i h);
-}
-  where
-    none-on : (i : ℕ) → bit i 0 ≡ true → ⊥
-    none-on i h = false≢true (sym (bit-zero i) ∙ h)
+-- no bit is set
+none-on : {X : Type 0} (i : ℕ) → bit i 0 ≡ true → X
+none-on i h = absurd (false≢true (sym (bit-zero i) ∙ h))
 
-pub begin-so-far : {q : List ℕ} {c : Compiled} → length q ≤ maxQueryBytes → (length q ≡ 0 → ⊥) → getD q 0 0 ≡ 0x24 → c ≡ noSteps → SoFar q c 1
-begin-so-far {q} {c} l n e f = record {
+held-none : (names : List ℕ) (n : ℕ) → HeldTo names n [] noSteps
+held-none names n = record {
+  holds = record {
+    fits = record { few = omega arith; operands-length = refl; order = λ i h. none-on i h; within = λ i h. none-on i h };
+    count = refl;
+    deep = bit-zero;
+    every = bit-zero;
+    named = bit-zero;
+    positioned = bit-zero;
+    name = λ i h. none-on i h;
+    position = λ i h. none-on i h;
+  };
+  ends = λ i h. none-on i h;
+}
+
+pub begin-so-far : {q names : List ℕ} {c : Compiled} → length q ≤ maxQueryBytes → (length q ≡ 0 → ⊥) → getD q 0 0 ≡ 0x24 → c ≡ noSteps
+    → SoFar q names c 1
+begin-so-far {q} {names} {c} l n e f = record {
   short = l;
   within = omega arith;
   before = [];
-  held = subst (λ (d : Compiled). Holds q [] (d .kinds) (d .operands)) (sym f) (holds-none q);
+  held = subst (HeldTo names 1 []) (sym f) (held-none names 1);
   reads = kept-at root q 0 (omega arith) done (ap (step (M.at root)) e ∙ root-leads) refl ∙ prepend-none (ended 1 (drop 1 q));
 }
 
--- a name in a query that is short enough has small bounds
-short-found : (q : List ℕ) (t : Taking) → length q ≤ maxQueryBytes → Bounded q t → Short t
-short-found q Every l b = tt
-short-found q (Name a e) l b = (omega (arith, b .0, b .1), omega (arith, b .1))
-short-found q (Position j) l b = tt
+-- a name of a step that was read stands in the query; a query that is short enough has it where the buffer has room
+found-stands : (q : List ℕ) (t : Taking) (n m : ℕ) → length q ≤ maxQueryBytes → m ≤ length q → Bounded n m t → Stands q t
+found-stands q Every n m l h b = tt
+found-stands q (Name a e) n m l h b = (b .1, omega (arith, b .2), omega (arith, b .2))
+found-stands q (Position j) n m l h b = tt
 
-module _ {q : List ℕ} {c : Compiled} {i : ℕ} (s : SoFar q c i) where
-  pub so-far-more : {f : Found} {m : ℕ} {d : Compiled} → StepTaken q i f m → Holds q (stepsOf (s .before) ++ placedAt q f .step ∷ []) (d .kinds) (d .operands) →
-      SoFar q d m
-  so-far-more {f} {m} {d} t w = record {
+module _ {q names : List ℕ} {c : Compiled} {i : ℕ} (s : SoFar q names c i) where
+  pub so-far-stands : {f : Found} {m : ℕ} → StepTaken q i f m → Stands q (f .taking)
+  so-far-stands {f} {m} t = found-stands q (f .taking) i m (s .short) (t .within) (t .bounded)
+
+  -- there is room for one step more
+  pub so-far-room : (c .kinds .count ≡ maxSteps → ⊥) → c .kinds .count < maxSteps
+  so-far-room n = omega (arith, s .held .holds .fits .few)
+
+  pub so-far-more : {f : Found} {m : ℕ} {after : List ℕ} {one : Entry} {d : Compiled} → StepTaken q i f m → Decodes q f names after one →
+      Adds c one d → SoFar q after d m
+  so-far-more {f} {m} {after} {one} {d} t w more = record {
     short = s .short;
     within = t .within;
     before = s .before ++ placedAt q f ∷ [];
-    held = subst (λ (x : List Step). Holds q x (d .kinds) (d .operands)) (sym (stepsOf-more (s .before) (placedAt q f))) w;
+    held =
+        subst (λ (x : List Step). HeldTo after m x d) (sym (stepsOf-more (s .before) (placedAt q f)))
+        (more .held (omega (arith, s .short, t .within)) (held-on (omega (arith, t .on)) (w .stays t) (s .held)) (w .compiles t));
     reads = s .reads ∙ ap (prepend (s .before)) (t .reads) ∙ prepend-push (s .before) (placedAt q f) (reading done m (drop m q));
   }
 
   pub so-far-refused : {r : StepRead} {p : ℕ} {a : Outcome} → StepAt q i r → tagOf the-type r ≡ 1 → p ≡ readPlace r → a ≡ refusal 2 p →
-      QueryRead q a
+      QueryRead q names a
   so-far-refused z t e f = bad-answer (s .short) (s .reads ∙ ap (prepend (s .before)) (step-refused z t ∙ ap bad (sym e))) f
 
   -- the query ends
-  pub so-far-end : length q ≤ i → QueryRead q (record { ground = 0; place = 0; steps = c })
+  pub so-far-end : length q ≤ i → QueryRead q names (record { ground = 0; place = 0; steps = c })
   unfolding judged stepsIn
   so-far-end h =
       let l = s .before in
       let e : reading root 0 q ≡ good (named [] l) = s .reads ∙ ap (prepend l) (nothing-left q i h) ∙
       ap (λ (k : List Placed). good (named [] k)) (append-nil l) in
-      let v : queryVerdict q ≡ Verdict.taken = short-enough q (s .short) ∙ ap judged e ∙ few l (omega (arith, s .held .fits .few, s .held .count, length-steps l)) in
+      let v : queryVerdict q ≡ Verdict.taken =
+      short-enough q (s .short) ∙ ap judged e ∙ few l (omega (arith, s .held .holds .fits .few, s .held .holds .count, length-steps l)) in
       let x : stepsIn q ≡ stepsOf l = ap (λ (r : Reading). stepsOf (stepsRead r)) e in
       record {
         ground = sym (ap (λ (v : Verdict). v .ground) v);
         place = sym (ap (λ (v : Verdict). v .place) v);
-        steps = subst (λ (v : Verdict). StepsFor q (v .ground) c) (sym v) (subst (λ (k : List Step). Holds q k (c .kinds) (c .operands)) (sym x) (s .held));
+        steps =
+            subst (λ (v : Verdict). StepsFor q names (v .ground) c) (sym v)
+            (subst (λ (k : List Step). Holds names k (c .kinds) (c .operands)) (sym x) (s .held .holds));
       }
 
   -- a 17th step stands there
   pub so-far-many : {f : Found} {m : ℕ} {a : Outcome} → StepTaken q i f m → c .kinds .count ≡ maxSteps →
-      a ≡ overflow (f .place) (reading done m (drop m q)) → QueryRead q a
+      a ≡ overflow (f .place) (reading done m (drop m q)) → QueryRead q names a
   unfolding judged
   so-far-many {f} {m} {a} t n g = go (reading done m (drop m q)) (s .reads ∙ ap (prepend (s .before)) (t .reads)) g
     where
-      go : (r : Reading) → reading root 0 q ≡ prepend (s .before) (push (placedAt q f) r) → a ≡ overflow (f .place) r → QueryRead q a
+      go : (r : Reading) → reading root 0 q ≡ prepend (s .before) (push (placedAt q f) r) → a ≡ overflow (f .place) r → QueryRead q names a
       go (good b) e g =
           let l = s .before in
           let k : List Placed = l ++ placedAt q f ∷ b .later in
-          let z : length l ≡ maxSteps = sym (length-steps l) ∙ sym (s .held .count) ∙ n in
+          let z : length l ≡ maxSteps = sym (length-steps l) ∙ sym (s .held .holds .count) ∙ n in
           refused-answer
           (short-enough q (s .short) ∙ ap judged e ∙ too-many k (omega (arith, length-append l (placedAt q f ∷ b .later))) ∙
           ap (refused 3) (ap (λ (j : ℕ). placeOf j k) (sym z) ∙ placeOf-here l (placedAt q f) (b .later))) g
       go (bad p) e g = bad-answer (s .short) e g
-
-  -- there is room for one step more
-  pub add-fits : {f : Found} {m : ℕ} → StepTaken q i f m → (c .kinds .count ≡ maxSteps → ⊥) → (c .kinds .count < maxSteps) × Short (f .taking)
-  add-fits {f} t n = (omega (arith, s .held .fits .few), short-found q (f .taking) (s .short) (t .bounded))

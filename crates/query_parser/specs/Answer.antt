@@ -1,4 +1,4 @@
--- What reading a query answers (document 01, "Grounds for refusing"): the verdict, and the steps where it is taken.
+-- What reading a query answers (document 01, "Grounds for refusing"): the verdict, and the steps where it is taken, with their names decoded.
 use mathlib.Core.Path.{_≡_}
 use mathlib.Core.List.{List}
 use Prim.Native.Nat.{ℕ, zero, suc}
@@ -18,11 +18,11 @@ overflow place (good a) = refusal 3 place
 overflow place (bad p) = refusal 2 p
 
 -- the steps for a ground: all of the query's where there is none, and none on refusal
-abbrev pub StepsFor : List ℕ → ℕ → Compiled → Type 0
-StepsFor q zero c = Holds q (stepsIn q) (c .kinds) (c .operands)
-StepsFor q (suc g) c = c ≡ noSteps
+abbrev pub StepsFor : (q names : List ℕ) → ℕ → Compiled → Type 0
+StepsFor q names zero c = Holds names (stepsIn q) (c .kinds) (c .operands)
+StepsFor q names (suc g) c = c ≡ noSteps
 
-pub record QueryRead (q : List ℕ) (r : Outcome) : Type 0 where
+pub record QueryRead (q names : List ℕ) (r : Outcome) : Type 0 where
   pub ground : r .ground ≡ queryVerdict q .ground
   pub place : r .place ≡ queryVerdict q .place
-  pub steps : StepsFor q (queryVerdict q .ground) (r .steps)
+  pub steps : StepsFor q names (queryVerdict q .ground) (r .steps)

@@ -1,5 +1,5 @@
 -- What the compiled form of a query holds: its steps, as bits, and for each an operand, the name or the position that it takes
--- (document 01, "Marks, frames, the pile").
+-- (document 01, "Marks, frames, the pile"). The names stand beside it, decoded, in UTF-8.
 use mathlib.Core.Path.{_≡_}
 use mathlib.Core.List.{List, []}
 use mathlib.Core.Bool.{Bool, true, false}
@@ -8,13 +8,13 @@ use Prim.Native.Nat.{ℕ, _/_, _%_, _≤_}
 use lib.ListN.{length, getD, getElem?, replicate}
 use lib.Seq.{slice}
 use Rattle.bits.specs.Bits.{bit}
+use Rattle.encoding.specs.Points.{Utf8Of}
 use Rattle.query_parser.specs.declared.compiled.Kinds.{Kinds}
 use Rattle.query_parser.specs.declared.compiled.Compiled.{Compiled}
 use Rattle.query.specs.Steps.{Selector, name, every, position, Step, isDeep}
-use Rattle.query.specs.Read.{nameBytes}
-use Rattle.query.specs.Verdict.{maxSteps}
+use Rattle.query.specs.Verdict.{maxQueryBytes, maxSteps}
 
--- what a selector is: `*`, a name or a position; and the position
+-- what a selector is: `*`, a name or a position; the name, and the position
 
 abbrev pub isEvery : Selector → Bool
 isEvery (name w) = false
@@ -31,12 +31,17 @@ isPositioned (name w) = false
 isPositioned every = false
 isPositioned (position j) = true
 
+abbrev pub nameTaken : Selector → List ℕ
+nameTaken (name w) = w
+nameTaken every = []
+nameTaken (position j) = []
+
 abbrev pub positionTaken : Selector → ℕ
 positionTaken (name w) = 0
 positionTaken every = 0
 positionTaken (position j) = j
 
--- the same of a step, if there is one; and the bytes of its name
+-- the same of a step, if there is one; and the code points of its name
 
 abbrev pub everyAt : Option Step → Bool
 everyAt none = false
@@ -52,13 +57,14 @@ positionedAt (some x) = isPositioned (x .selector)
 
 abbrev pub nameAt : Option Step → List ℕ
 nameAt none = []
-nameAt (some x) = nameBytes (x .selector)
+nameAt (some x) = nameTaken (x .selector)
 
 abbrev pub positionAt : Option Step → ℕ
 positionAt none = 0
 positionAt (some x) = positionTaken (x .selector)
 
--- the operand of a step with a name is the name's bounds in the query as one number: the place of its first byte, and the place after its last
+-- the operand of a step with a name is the bounds of its UTF-8 among the names as one number: the place of its first byte, and the place
+-- after its last
 
 abbrev pub nameStart : ℕ → ℕ
 nameStart w = w / 65536
@@ -66,22 +72,23 @@ nameStart w = w / 65536
 abbrev pub nameEnd : ℕ → ℕ
 nameEnd w = w % 65536
 
--- there is room for the steps, and the names lie in the query
-pub record Fits (q : List ℕ) (k : Kinds) (operands : List ℕ) : Type 0 where
+-- there is room for the steps, and each name lies where a query can have one
+pub record Fits (k : Kinds) (operands : List ℕ) : Type 0 where
   pub few : k .count ≤ maxSteps
   pub operands-length : length operands ≡ maxSteps
   pub order : (i : ℕ) → bit i (k .named) ≡ true → nameStart (getD operands i 0) ≤ nameEnd (getD operands i 0)
-  pub within : (i : ℕ) → bit i (k .named) ≡ true → nameEnd (getD operands i 0) ≤ length q
+  pub within : (i : ℕ) → bit i (k .named) ≡ true → nameEnd (getD operands i 0) ≤ maxQueryBytes
 
--- these are exactly the steps x of the query q; bit and operand i are those of the step number i, counted from 0
-pub record Holds (q : List ℕ) (x : List Step) (k : Kinds) (operands : List ℕ) : Type 0 where
-  pub fits : Fits q k operands
+-- these are exactly the steps x; bit and operand i are those of the step number i, counted from 0
+pub record Holds (names : List ℕ) (x : List Step) (k : Kinds) (operands : List ℕ) : Type 0 where
+  pub fits : Fits k operands
   pub count : k .count ≡ length x
   pub deep : (i : ℕ) → bit i (k .deep) ≡ isDeep (getElem? x i)
   pub every : (i : ℕ) → bit i (k .every) ≡ everyAt (getElem? x i)
   pub named : (i : ℕ) → bit i (k .named) ≡ namedAt (getElem? x i)
   pub positioned : (i : ℕ) → bit i (k .positioned) ≡ positionedAt (getElem? x i)
-  pub name : (i : ℕ) → bit i (k .named) ≡ true → slice (nameStart (getD operands i 0)) (nameEnd (getD operands i 0)) q ≡ nameAt (getElem? x i)
+  pub name : (i : ℕ) → bit i (k .named) ≡ true
+      → Utf8Of (slice (nameStart (getD operands i 0)) (nameEnd (getD operands i 0)) names) (nameAt (getElem? x i))
   pub position : (i : ℕ) → bit i (k .positioned) ≡ true → getD operands i 0 ≡ positionAt (getElem? x i)
 
 -- no steps: every number is 0

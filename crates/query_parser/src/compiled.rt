@@ -1,14 +1,14 @@
 // The steps of a query in the form that the walks use: kinds as bits, and an operand for each step, the name or the position that it takes.
+// The names themselves stand decoded in a buffer.
+use names::Names;
+use names::write_name;
 use query_steps::Found;
 use query_steps::Taking;
 ghost use mathlib.Core.Path.{_≡_};
-ghost use mathlib.Core.List.{List, [], _∷_, _++_};
-ghost use Prim.Native.Nat.{ℕ, _<_};
-ghost use Rattle.query.specs.Steps.{Step};
+ghost use Prim.Native.Nat.{_<_};
 ghost use Rattle.query.specs.Verdict.{maxSteps};
-ghost use Rattle.query_steps.specs.Reader.{Bounded, placedAt};
-ghost use Rattle.query_parser.specs.Compiles.{Short, Compiles};
-ghost use Rattle.query_parser.specs.Holds.{nameStart, nameEnd, Holds, noSteps};
+ghost use Rattle.query_parser.specs.Compiles.{Stands, Decodes, Adds};
+ghost use Rattle.query_parser.specs.Holds.{nameStart, nameEnd, noSteps};
 
 pub const MAX_STEPS: usize = 16;
 
@@ -25,7 +25,7 @@ pub struct Kinds {
     pub positioned: u16,
 }
 
-// The steps of a query: their kinds, and the operand of each. That of a step with a name is the name's bounds in the query as one number,
+// The steps of a query: their kinds, and the operand of each. That of a step with a name is the name's bounds in the buffer as one number,
 // its first byte's place times 65,536 and the place after its last; that of a step with a position is the position; that of `*` is 0.
 pub struct Compiled {
     pub kinds: Kinds,
@@ -71,10 +71,11 @@ pub fn no_steps() -> Compiled
     }
 }
 
-// The step that was found.
-fn entry_of(found: Found) -> Entry
-    requires { ⌜ Short (found .taking) ⌝ }
-    ensures { λ r. ⌜ ((q : List ℕ) → Bounded q (found .taking) → Compiles q (placedAt q found .step) r) ⌝ }
+// The step that was found. Its name goes decoded into the buffer, from the place on that it has in the query. The slice `all` is there for
+// the proof: it has the length of the array, which `write_name` asks.
+pub fn entry_of(query: &[u8], found: Found, names: &mut Names) -> Entry
+    requires { ⌜ Stands (now query) (found .taking) ⌝ }
+    ensures { λ r. ⌜ Decodes (now (query .entry)) found (now (names .entry)) (now (names .exit)) r ⌝ }
 {
     let taking = found.taking;
     match taking {
@@ -85,13 +86,17 @@ fn entry_of(found: Found) -> Entry
             positioned: false,
             operand: 0,
         },
-        Taking::Name(start, end) => Entry {
-            deep: found.deep,
-            every: false,
-            named: true,
-            positioned: false,
-            operand: start as u64 * BOUND + end as u64,
-        },
+        Taking::Name(start, stop) => {
+            let all: &[u8] = names;
+            let end = write_name(query, start, stop, names);
+            Entry {
+                deep: found.deep,
+                every: false,
+                named: true,
+                positioned: false,
+                operand: start as u64 * BOUND + end as u64,
+            }
+        }
         Taking::Position(position) => Entry {
             deep: found.deep,
             every: false,
@@ -103,11 +108,10 @@ fn entry_of(found: Found) -> Entry
 }
 
 // The steps with one more, for which there is room.
-pub fn add(steps: Compiled, found: Found) -> Compiled
-    requires { ⌜ (steps .kinds .count < maxSteps) × Short (found .taking) ⌝ }
-    ensures { λ r. ⌜ ((q : List ℕ) (x : List Step) → Holds q x (steps .kinds) (steps .operands) → Bounded q (found .taking) → Holds q (x ++ placedAt q found .step ∷ []) (r .kinds) (r .operands)) ⌝ }
+pub fn add(steps: Compiled, one: Entry) -> Compiled
+    requires { ⌜ steps .kinds .count < maxSteps ⌝ }
+    ensures { λ r. ⌜ Adds steps one r ⌝ }
 {
-    let one = entry_of(found);
     let old = steps.kinds;
     let k = old.count;
     let mut operands = steps.operands;

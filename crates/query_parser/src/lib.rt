@@ -1,4 +1,4 @@
-// The query reader: grounds 1 to 3, and the steps of a query as masks and operands.
+// The query reader: grounds 1 to 3, and the steps of a query as masks and operands, with their names decoded.
 mod compiled;
 
 pub use compiled::Compiled;
@@ -6,6 +6,7 @@ pub use compiled::Kinds;
 pub use compiled::name_end;
 pub use compiled::name_start;
 use encoding::Rows;
+use names::Names;
 use query_steps::StepRead;
 ghost use mathlib.Core.Path.{_≡_};
 ghost use Prim.Native.Nat.{_≤_};
@@ -61,9 +62,9 @@ fn too_many(rows: &Rows, query: &[u8], place: usize, at: usize) -> Outcome
     refuse(TOO_MANY, place)
 }
 
-// Reads a query: grounds 1 to 3 with their places, tried in this order, and its steps where it is taken.
-pub fn read_query(query: &[u8]) -> Outcome
-    ensures { λ r. ⌜ QueryRead (now (query .entry)) r ⌝ }
+// Reads a query: grounds 1 to 3 with their places, tried in this order, and its steps where it is taken, with their names decoded.
+pub fn read_query(query: &[u8], names: &mut Names) -> Outcome
+    ensures { λ r. ⌜ QueryRead (now (query .entry)) (now (names .exit)) r ⌝ }
 {
     if query.len() > MAX_QUERY_BYTES {
         return refuse(TOO_LONG, MAX_QUERY_BYTES);
@@ -85,7 +86,8 @@ pub fn read_query(query: &[u8]) -> Outcome
         if steps.kinds.count == compiled::MAX_STEPS {
             return too_many(&rows, query, found.place, after);
         }
-        steps = compiled::add(steps, found);
+        let one = compiled::entry_of(query, found, names);
+        steps = compiled::add(steps, one);
         at = after;
     }
     Outcome {

@@ -15,16 +15,18 @@ use Rattle.encoding.specs.Prefix.{DeadPlace}
 use Rattle.query_steps.specs.declared.Found.{Found}
 use Rattle.query_steps.specs.declared.StepRead.{StepRead}
 use Rattle.query_steps.specs.declared.StepRead.the-variants.{Taken, Refused}
+use Rattle.query_steps.specs.declared.Taking.{Taking}
 use Rattle.query_steps.specs.declared.Taking.the-variants.{Every, Name, Position}
 use Rattle.query.specs.Grammar as G
 use Rattle.query.specs.Grammar.{Quote, quoteByte, Short, Inner, Depth, Spaced, QueryText, putFirst, putLaters, putChars, putPosition, putDots, putDeep}
-use Rattle.query.specs.Grammar.{putSegment, putSpaced, isDeep, segmentStep}
+use Rattle.query.specs.Grammar.{putSegment, putSpaced, isDeep}
 use Rattle.query.specs.Steps as S
 use Rattle.query.specs.Steps.{Selector}
 use Rattle.query.specs.Machine as M
 use Rattle.query.specs.Machine.{Control, done, gap, opened, closing, inside, quoted, dead, Rule, blankRules, pick, step, run, place, start}
 use Rattle.query.specs.Read as R
 use Rattle.query.specs.Read.{begin, deepen, Reading, good, bad, note, reading}
+use Rattle.query.specs.Written.{segmentWritten}
 use Rattle.query.specs.MachineLaws.{miss-only}
 use Rattle.query.specs.Positions.{no-digit}
 use Rattle.query.specs.Spell.{spell, spell-named, spell-bad, done-gap, blank-gap, blank-opened, blank-closing}
@@ -111,14 +113,20 @@ module _ {q : List ℕ} {f : Found} {n r : ℕ} (s : Skipped q n r) where
         reads = over-blanks s closing blank-closing refl ∙ kept-at closing q r h done (ap (step (M.at closing)) e) refl;
       })
 
+-- what stands between two places stands between places further apart
+bounded-wider : {n k m o : ℕ} (t : Taking) → n ≤ k → m ≤ o → Bounded k m t → Bounded n o t
+bounded-wider Every l h b = b
+bounded-wider (Name x y) l h (a, b, c) = (omega arith, b, omega arith)
+bounded-wider (Position j) l h b = b
+
 -- a part of a step, from where its first bytes and the reading were led on
 pub part-from : {q : List ℕ} {c k : Control} {n m place : ℕ} {deep : Bool} {r : StepRead} → n ≤ m →
     (Begun q place (depthOf deep) c n → Begun q place (depthOf deep) k m) →
     reading c n (drop n q) ≡ reading k m (drop m q) → PartRead q k m place deep r → PartRead q c n place deep r
-part-from l b e (Reader.PartRead.taken f m t) = Reader.PartRead.taken f m (record {
+part-from l b e (Reader.PartRead.taken f o t) = Reader.PartRead.taken f o (record {
   place = t .place;
   depth = t .depth;
-  bounded = t .bounded;
+  bounded = bounded-wider (f .taking) l (omega arith) (t .bounded);
   on = omega (arith, t .on);
   within = t .within;
   stands = λ x. t .stands (b x);
@@ -127,7 +135,7 @@ part-from l b e (Reader.PartRead.taken f m t) = Reader.PartRead.taken f m (recor
 part-from l b e (Reader.PartRead.refused p g) = Reader.PartRead.refused p (e ∙ g)
 
 -- what was read in brackets, and their end
-module _ (q : List ℕ) (c : Control) (n k : ℕ) (f : Found) (said : Reading → Reading) (l : n ≤ k) (b : Bounded q (f .taking))
+module _ (q : List ℕ) (c : Control) (n k : ℕ) (f : Found) (said : Reading → Reading) (l : n ≤ k) (b : Bounded n k (f .taking))
     (bads : (p : ℕ) → said (bad p) ≡ bad p) (chooses : (r : Reading) → Ended r → said r ≡ choose (selectorAt q (f .taking)) r)
     (stands : (m : ℕ) (w : Blanks) → putBlanks w (0x5D ∷ drop m q) ≡ drop k q → Begun q (f .place) (depthOf (f .deep)) c n → SegmentAt q f m)
     (e : reading c n (drop n q) ≡ said (reading closing k (drop k q))) where
@@ -135,7 +143,7 @@ module _ (q : List ℕ) (c : Control) (n k : ℕ) (f : Found) (said : Reading �
   close-part (Reader.Closed.taken m t) = Reader.PartRead.taken f m (record {
     place = refl;
     depth = refl;
-    bounded = b;
+    bounded = bounded-wider (f .taking) (omega arith) (omega (arith, t .on)) b;
     on = omega (arith, t .on);
     within = t .within;
     stands = stands m (t .stand .0) (t .stand .1);
@@ -156,7 +164,7 @@ positionFound place d j = record { deep = d; place = place; taking = Position j 
 module _ {q : List ℕ} {quote n place : ℕ} {deep ok : Bool} {r : ℕ} (s : QuotedName q quote n ok r) where
   quoted-segment : ok ≡ true → (x : Quote) → quote ≡ quoteByte x → (m : ℕ) (v : Blanks) → putBlanks v (0x5D ∷ drop m q) ≡ drop (r + 1) q →
       Begun q place (depthOf deep) (inside (quoted x)) n → SegmentAt q (nameFound place deep n r) m
-  unfolding putSegment segmentStep
+  unfolding putSegment segmentWritten
   quoted-segment e x z m v f (w, b) =
       let c = s .closed e in
       let (cs, t) = s .stand e x z in
@@ -177,7 +185,7 @@ module _ {q : List ℕ} {quote n place : ℕ} {deep ok : Bool} {r : ℕ} (s : Qu
   quoted-taken e d x z =
       let c = s .closed e in
       close-part q (inside (quoted x)) n (r + 1) (nameFound place deep n r) (spell (slice n r q)) (omega (arith, c .0))
-      (c .0, s .within)
+      (omega arith, c .0, omega arith)
       (spell-bad (slice n r q)) (choose-name (slice n r q))
       (quoted-segment e x z)
       (s .reads x z ∙ ap (λ (b : Bool). spelt q (inside (quoted x)) n b r) e ∙
@@ -189,7 +197,7 @@ module _ {q : List ℕ} {quote n place : ℕ} {deep ok : Bool} {r : ℕ} (s : Qu
 module _ {q : List ℕ} {n place : ℕ} {deep : Bool} {r j : ℕ} (s : PositionAt q n r j) where
   position-segment : (m : ℕ) (v : Blanks) → putBlanks v (0x5D ∷ drop m q) ≡ drop r q →
       Begun q place (depthOf deep) opened n → SegmentAt q (positionFound place deep j) m
-  unfolding putSegment segmentStep
+  unfolding putSegment segmentWritten
   position-segment m v f (w, b) =
       let (p, t, e) = s .stands in
       let d : Depth = depthOf deep in
@@ -225,7 +233,7 @@ module _ {q : List ℕ} {n r : ℕ} (s : Skipped q n r) {place : ℕ} {deep : Bo
 
     every-segment : getD q r 0 ≡ 0x2A → (m : ℕ) (v : Blanks) → putBlanks v (0x5D ∷ drop m q) ≡ drop (r + 1) q →
         Begun q place (depthOf deep) opened r → SegmentAt q (everyFound place deep) m
-    unfolding putSegment segmentStep
+    unfolding putSegment segmentWritten
     every-segment e m v f (w, b) =
         let d : Depth = depthOf deep in
         record {
@@ -259,7 +267,7 @@ module _ {q : List ℕ} {n place : ℕ} {deep : Bool} where
   short-end h = Reader.PartRead.refused n (end-at (M.dotted (depthOf deep)) q n h refl)
 
   pub short-every : n < length q → getD q n 0 ≡ 0x2A → PartRead q (M.dotted (depthOf deep)) n place deep (Taken (everyFound place deep) (n + 1))
-  unfolding putSegment segmentStep
+  unfolding putSegment segmentWritten
   short-every h e =
       Reader.PartRead.taken (everyFound place deep) (n + 1) (record {
         place = refl;
@@ -282,7 +290,7 @@ module _ {q : List ℕ} {n place : ℕ} {deep : Bool} where
         (s .reads (depthOf deep) (record { no-star = f; no-deeper = g }) ∙ ap (λ (b : Bool). spelt q done n b r) e)
 
     short-segment : ok ≡ true → Begun q place (depthOf deep) (M.dotted (depthOf deep)) n → SegmentAt q (nameFound place deep n r) r
-    unfolding putSegment segmentStep
+    unfolding putSegment segmentWritten
     short-segment e b =
         let m = s .moved .on e in
         let (x, cs, t) = s .stands e in
@@ -299,7 +307,7 @@ module _ {q : List ℕ} {n place : ℕ} {deep : Bool} where
         Reader.PartRead.taken (nameFound place deep n r) r (record {
           place = refl;
           depth = refl;
-          bounded = (omega arith, s .moved .within);
+          bounded = (omega arith, omega arith, omega arith);
           on = m;
           within = s .moved .within;
           stands = short-segment e;
@@ -355,7 +363,7 @@ module _ (q : List ℕ) (c : Control) (n k place : ℕ) (deep : Bool) (said : Re
         written = written-slice q (putSpaced y []) n m h (t .within) (sym (append-spaced y [] (drop m q)) ∙ text);
         place = omega (arith, t .place, blanks-far s);
         step = g .step;
-        bounded = t .bounded;
+        bounded = bounded-wider (f .taking) (omega (arith, s .from)) (omega arith) (t .bounded);
         on = omega (arith, s .from);
         within = t .within;
         reads = e ∙ ap said (t .reads) ∙ pushes x (reading done m (drop m q)) ∙

@@ -1,6 +1,6 @@
 -- What the promise of a step rules out, also where the rest of the query is broken: no step from 1 on in `$.a!` has another place than 1,
--- none in `$[4294967296]` takes another position, and none stands in `$[00]` and in `$[9007199254740992]`, whose dead bytes are the ones
--- at 3 and 17. Assumes nothing.
+-- none in `$[4294967296]` takes another position, none in `$['\u006cot']` another name than lot, and none stands in `$[00]`, in
+-- `$[9007199254740992]` and in `$['\uDC00']`, whose dead bytes are the ones at 3, 17 and 6. Assumes nothing.
 use mathlib.Core.Path.{_≡_, refl, ap, sym, _∙_}
 use mathlib.Core.List.{List, [], _∷_}
 use mathlib.Core.Bool.{Bool, true, false, not, _&&_, false≢true}
@@ -17,6 +17,7 @@ use Rattle.query.specs.Steps as S
 use Rattle.query.specs.Steps.{Selector}
 use Rattle.query.specs.Machine.{done, run, accept, start}
 use Rattle.query.specs.Read.{Placed, Reading, good, bad, reading, stepsRead}
+use Rattle.query.specs.Verdict.{decoded}
 use Rattle.query.specs.Place.{accepts-text}
 use Rattle.query_steps.specs.declared.Found.{Found}
 use Rattle.query_steps.specs.declared.StepRead.{StepRead}
@@ -56,30 +57,40 @@ broken-rest f m t = place-here broken 1 dot-no-blank t
 abbrev large : List ℕ
 large = 0x24 ∷ 0x5B ∷ 0x34 ∷ 0x32 ∷ 0x39 ∷ 0x34 ∷ 0x39 ∷ 0x36 ∷ 0x37 ∷ 0x32 ∷ 0x39 ∷ 0x36 ∷ 0x5D ∷ []
 
--- the number after the position that is taken, and 0 where none is; of the first step
-abbrev afterPosition : Selector → ℕ
-afterPosition (S.name w) = 0
-afterPosition S.every = 0
-afterPosition (S.position j) = suc j
+-- what the first step takes; `*` where there is none
+abbrev firstTaken : List Placed → Selector
+firstTaken [] = S.every
+firstTaken (x ∷ l) = x .step .selector
 
-abbrev afterFirst : List Placed → ℕ
-afterFirst [] = 0
-afterFirst (x ∷ l) = afterPosition (x .step .selector)
+pushed-first : (x : Placed) (r : Reading) (y : Selector) → (S.every ≡ y → ⊥) → firstTaken (stepsRead (push x r)) ≡ y → x .step .selector ≡ y
+pushed-first x (good a) y f e = e
+pushed-first x (bad p) y f e = absurd (f e)
 
-only-position : (q : List ℕ) (t : Taking) (j : ℕ) → afterPosition (selectorAt q t) ≡ suc j → t ≡ Position j
-only-position q Every j e = absurd (omega arith)
-only-position q (Name a b) j e = absurd (omega arith)
-only-position q (Position i) j e = ap Position (omega arith)
+module _ (q : List ℕ) where
+  only-position : (t : Taking) (j : ℕ) → selectorAt q t ≡ S.position j → t ≡ Position j
+  only-position Every j e = let z : _≡_ {A = ℕ} 0 1 = cc in absurd (omega arith)
+  only-position (Name a b) j e = let z : _≡_ {A = ℕ} 0 1 = cc in absurd (omega arith)
+  only-position (Position i) j e = ap Position (cc)
 
-pushed-position : (x : Placed) (r : Reading) (j : ℕ) → afterFirst (stepsRead (push x r)) ≡ suc j → afterPosition (x .step .selector) ≡ suc j
-pushed-position x (good a) j e = e
-pushed-position x (bad p) j e = absurd (omega arith)
+  first-taken : (n : ℕ) (f : Found) (m : ℕ) → StepTaken q n f m → (y : Selector) → (S.every ≡ y → ⊥) →
+      firstTaken (stepsRead (reading done n (drop n q))) ≡ y → selectorAt q (f .taking) ≡ y
+  first-taken n f m t y g e =
+      pushed-first (placedAt q f) (reading done m (drop m q)) y g (ap (λ (r : Reading). firstTaken (stepsRead r)) (sym (t .reads)) ∙ e)
 
 whole-position : (f : Found) (m : ℕ) → StepTaken large 1 f m → f .taking ≡ Position 4294967296
 unfolding reading
 whole-position f m t =
     only-position large (f .taking) 4294967296
-    (pushed-position (placedAt large f) (reading done m (drop m large)) 4294967296 (ap (λ (r : Reading). afterFirst (stepsRead r)) (sym (t .reads))))
+    (first-taken large 1 f m t (S.position 4294967296) (λ e. let z : _≡_ {A = ℕ} 0 1 = cc in omega arith) refl)
+
+-- `$['\u006cot']`
+abbrev escaped : List ℕ
+escaped = 0x24 ∷ 0x5B ∷ 0x27 ∷ 0x5C ∷ 0x75 ∷ 0x30 ∷ 0x30 ∷ 0x36 ∷ 0x63 ∷ 0x6F ∷ 0x74 ∷ 0x27 ∷ 0x5D ∷ []
+
+name-decoded : (f : Found) (m : ℕ) → StepTaken escaped 1 f m → decoded (selectorAt escaped (f .taking)) ≡ S.name (0x6C ∷ 0x6F ∷ 0x74 ∷ [])
+unfolding reading decoded
+name-decoded f m t =
+    ap decoded (first-taken escaped 1 f m t _ (λ e. let z : _≡_ {A = ℕ} 0 1 = cc in omega arith) refl)
 
 -- the place of a dead byte
 abbrev deadAt : Reading → ℕ
@@ -127,3 +138,11 @@ beyond = 0x24 ∷ 0x5B ∷ 0x39 ∷ 0x30 ∷ 0x30 ∷ 0x37 ∷ 0x31 ∷ 0x39 ∷
 past-maximum : (r : StepRead) → StepAt beyond 1 r → r ≡ Refused 17
 unfolding reading noStep
 past-maximum = refused-only beyond 1 refl 17 refl
+
+-- `$['\uDC00']`
+abbrev lowHalf : List ℕ
+lowHalf = 0x24 ∷ 0x5B ∷ 0x27 ∷ 0x5C ∷ 0x75 ∷ 0x44 ∷ 0x43 ∷ 0x30 ∷ 0x30 ∷ 0x27 ∷ 0x5D ∷ []
+
+low-half-alone : (r : StepRead) → StepAt lowHalf 1 r → r ≡ Refused 6
+unfolding reading noStep
+low-half-alone = refused-only lowHalf 1 refl 6 refl

@@ -13,11 +13,12 @@ use Rattle.query_steps.specs.declared.Taking.the-variants.{Every, Name, 
 use Rattle.encoding.specs.Bytes.{Blanks, putBlanks}
 use Rattle.encoding.specs.Prefix.{DeadPlace}
 use Rattle.query.specs.Grammar.{quoteByte, Depth, plain, deep, Segment, Spaced, QueryText, putDots, putDeep, putSegment, putSpaced}
-use Rattle.query.specs.Grammar.{maxPosition, segmentStep}
+use Rattle.query.specs.Grammar.{maxPosition}
 use Rattle.query.specs.Steps as S
 use Rattle.query.specs.Steps.{Selector}
-use Rattle.query.specs.Machine.{Control, root, done, gap, dotted, opened, closing, inPosition, inside, tailDue, short, quoted}
+use Rattle.query.specs.Machine.{Control, root, done, gap, dotted, opened, closing, inPosition, inside, inEscape, tailDue, short, quoted}
 use Rattle.query.specs.Read.{Placed, taking, named, Reading, good, bad, reading}
+use Rattle.query.specs.Written.{segmentWritten}
 
 -- the depth that is deep or not
 abbrev pub depthOf : Bool → Depth
@@ -39,11 +40,11 @@ abbrev pub readPlace : StepRead → ℕ
 readPlace (Taken f m) = f .place
 readPlace (Refused p) = p
 
--- a name stands in the query, and a position is at most the largest that a query can have
-abbrev pub Bounded : List ℕ → Taking → Type 0
-Bounded q Every = Unit {0}
-Bounded q (Name a b) = (a ≤ b) × (b ≤ length q)
-Bounded q (Position j) = j ≤ maxPosition
+-- of a step between two places of the query: its name stands there, and its position is at most the largest that a query can have
+abbrev pub Bounded : ℕ → ℕ → Taking → Type 0
+Bounded n m Every = Unit {0}
+Bounded n m (Name a b) = (n ≤ a) × (a ≤ b) × (b ≤ m)
+Bounded n m (Position j) = j ≤ maxPosition
 
 -- the step that is being read takes this, and then the others
 abbrev pub choose : Selector → Reading → Reading
@@ -78,19 +79,20 @@ Begun q place d closing n = ⊥
 Begun q place d (inPosition v) n = ⊥
 Begun q place d (inside short) n = ⊥
 Begun q place d (inside (quoted x)) n = (w : Blanks) × (putDeep d (0x5B ∷ putBlanks w (quoteByte x ∷ drop n q)) ≡ drop place q)
+Begun q place d (inEscape e x) n = ⊥
 Begun q place d (tailDue p k h) n = ⊥
 
 -- a segment of the grammar stands from the place of the step that was found up to m, and is that step
 pub record SegmentAt (q : List ℕ) (f : Found) (m : ℕ) : Type 0 where
   pub segment : Segment
   pub written : putSegment segment (drop m q) ≡ drop (f .place) q
-  pub step : placedAt q f .step ≡ segmentStep segment
+  pub step : placedAt q f .step ≡ segmentWritten segment
 
 -- the rest of a step, read from n up to m: it began at `begin`, and its first bytes led to the control state c
 pub record PartTaken (q : List ℕ) (c : Control) (n begin : ℕ) (deep : Bool) (f : Found) (m : ℕ) : Type 0 where
   pub place : f .place ≡ begin
   pub depth : f .deep ≡ deep
-  pub bounded : Bounded q (f .taking)
+  pub bounded : Bounded n m (f .taking)
   pub on : n < m
   pub within : m ≤ length q
   pub stands : Begun q begin (depthOf deep) c n → SegmentAt q f m
@@ -106,8 +108,8 @@ pub record StepTaken (q : List ℕ) (n : ℕ) (f : Found) (m : ℕ) : Type 0 whe
   pub spaced : Spaced
   pub written : putSpaced spaced [] ≡ slice n m q
   pub place : f .place ≡ n + length (spaced .before)
-  pub step : placedAt q f .step ≡ segmentStep (spaced .segment)
-  pub bounded : Bounded q (f .taking)
+  pub step : placedAt q f .step ≡ segmentWritten (spaced .segment)
+  pub bounded : Bounded n m (f .taking)
   pub on : n < m
   pub within : m ≤ length q
   pub reads : reading done n (drop n q) ≡ push (placedAt q f) (reading done m (drop m q))

@@ -1,5 +1,5 @@
 -- From runs of bytes to parts of the grammar: where a run of the right kind starts, the part that stands there is the run. Assumes nothing.
-use mathlib.Core.Path.{_≡_, refl, sym, ap, ap₂, _∙_}
+use mathlib.Core.Path.{_≡_, refl, sym, ap, ap₂, subst, _∙_}
 use mathlib.Core.List.{List, [], _∷_, _++_}
 use mathlib.Core.Bool.{Bool, true, false, not, false≢true, and-false, and-eq-true-iff}
 use Prim.Native.Nat.{ℕ, suc, _+_, _-_, _≤_, _<_}
@@ -16,6 +16,7 @@ use Rattle.classifier.specs.Classes.{byteAt, isBackslash}
 use Rattle.encoding.specs.Class.{classOf}
 use Rattle.encoding.specs.Bytes.{Blanks, putBlanks, putIn}
 use Rattle.encoding.specs.BytesLaws.{blanks-split, length-blanks}
+use Rattle.encoding.specs.Unescape as U
 use Rattle.json.specs.Append.{value-split, length-value, value-positive, append-chars, chars-split, length-chars}
 use Rattle.json.specs.Grammar as G
 use Rattle.json.specs.Grammar.{Literal, Minus, Int, Char, Name, Value}
@@ -25,9 +26,9 @@ use Rattle.select.specs.Nodes.{size, keySize}
 use Rattle.swar.specs.Kinds.{unquoted, gap}
 use Rattle.swar.specs.Run.{Run}
 use Rattle.scan.specs.Places.{Head, head-of, past, past-blanks, slice-is}
-use Rattle.scan.specs.Scans.{isWordByte, IsScalar, EndsBlanks, EndsString, EndsScalar, EntersItem}
+use Rattle.scan.specs.Scans.{isWordByte, IsScalar, EndsBlanks, EndsString, EndsName, EndsScalar, EntersItem}
 use Rattle.scan.specs.Shape.{endsWord, solid, stopped, wordy, Piece, plain, escaped, putPieces}
-use Rattle.scan.specs.ShapeLaws.{solid-key, solid-colon, blank-is, wordy-literal, wordy-number, pieces, chars-are}
+use Rattle.scan.specs.ShapeLaws.{AllOf, solid-key, solid-colon, blank-is, wordy-literal, wordy-number, pieces, chars-are}
 
 module _ {p : ℕ → Bool} {s : List ℕ} where
   -- a run ends where a byte is not of its kind, and goes on where one is
@@ -51,25 +52,26 @@ module _ {p : ℕ → Bool} {s : List ℕ} where
           let same : r ≡ a = omega (arith, ltb-false a r k, h .passed .forward) in
           absurd (false≢true (sym (h .stop (omega arith)) ∙ ap (λ (i : ℕ). p (getD s i 0)) same ∙ e))
 
--- every byte of a list is of the kind
-abbrev AllOf : (ℕ → Bool) → List ℕ → Type 0
-AllOf p [] = Unit {0}
-AllOf p (b ∷ xs) = (p b ≡ true) × AllOf p xs
+-- past bytes of the kind the run goes on
+pub run-past : {p : ℕ → Bool} {s : List ℕ} {a r : ℕ} (xs rest : List ℕ) → AllOf p xs → drop a s ≡ xs ++ rest → Run p s a r → Run p s (a + length xs) r
+run-past {p} {s} {a} {r} [] rest f e h = let z : a ≡ a + 0 = omega arith in rw z at h
+run-past {p} {s} {a} {r} (b ∷ xs) rest f e h =
+    let x = head-of s a b (xs ++ rest) e in
+    let z : suc a + length xs ≡ a + suc (length xs) = omega arith in
+    subst (λ (i : ℕ). Run p s i r) z (run-past xs rest (f .1) (x .rest-is) (run-next h (x .inside) (ap p (x .byte-is) ∙ f .0)))
 
--- the byte after them is not
+-- the byte after a list is not of the kind, or there is none
 abbrev Stops : (ℕ → Bool) → List ℕ → Type 0
 Stops p [] = Unit {0}
 Stops p (b ∷ u) = p b ≡ false
 
 run-exact : {p : ℕ → Bool} {s : List ℕ} {a r : ℕ} (xs rest : List ℕ) → AllOf p xs → Stops p rest → drop a s ≡ xs ++ rest
     → Run p s a r → r ≡ a + length xs
-run-exact {p} {s} {a} {r} [] [] f g e h = omega (arith, h .passed .forward, h .passed .within, length-drop a s, ap length e)
-run-exact {p} {s} {a} {r} [] (b ∷ rest) f g e h =
-    let x = head-of s a b rest e in
-    omega (arith, run-here h (ap p (x .byte-is) ∙ g))
-run-exact {p} {s} {a} {r} (b ∷ xs) rest f g e h =
-    let x = head-of s a b (xs ++ rest) e in
-    omega (arith, run-exact xs rest (f .1) g (x .rest-is) (run-next h (x .inside) (ap p (x .byte-is) ∙ f .0)))
+run-exact {p} {s} {a} {r} xs rest f g e h = ends rest g (past s a xs rest e) (run-past xs rest f e h)
+  where
+    ends : {i : ℕ} (rest : List ℕ) → Stops p rest → drop i s ≡ rest → Run p s i r → r ≡ i
+    ends {i} [] g e h = omega (arith, h .passed .forward, h .passed .within, length-drop i s, ap length e)
+    ends {i} (b ∷ rest) g e h = run-here h (ap p (head-of s i b rest e .byte-is) ∙ g)
 
 -- blanks
 all-blanks : (w : Blanks) → AllOf gap (putBlanks w [])
@@ -269,7 +271,7 @@ module _ (s : List ℕ) (a : ℕ) where
       }
 
 -- an element: only the blanks before it
-pub enters-element : (s : List ℕ) (a b : ℕ) → EndsBlanks s a b → EntersItem s a false b 0 0
+pub enters-element : (s : List ℕ) (a b : ℕ) → EndsBlanks s a b → EntersItem s a false b 0 0 false
 unfolding putKey keySize
 enters-element s a b h =
     record {
@@ -278,6 +280,7 @@ enters-element s a b h =
       name-order = omega arith;
       name-within = omega arith;
       exact = λ w key rest e f. (omega (arith, h .exact w rest e f), tt);
+      bare = λ _. U.none;
     }
 
 -- a member: the blanks before it, its name, the blanks on both sides of its colon
@@ -350,7 +353,7 @@ module _ (s : List ℕ) (a b : ℕ) (first : EndsBlanks s a b) (w : Blanks) (key
 -- where no member stands there is nothing to show
 enters-nothing : (s : List ℕ) (a v : ℕ) → a ≤ v → v ≤ length s
     → ((w : Blanks) (key : Name) (rest : List ℕ) → drop a s ≡ putBlanks w (putKey G.object key rest) → solid rest ≡ true → ⊥)
-    → EntersItem s a true v 0 0
+    → EntersItem s a true v 0 0 false
 enters-nothing s a v h l none =
     record {
       onward = h;
@@ -358,31 +361,34 @@ enters-nothing s a v h l none =
       name-order = omega arith;
       name-within = omega arith;
       exact = λ w key rest e f. absurd (none w key rest e f);
+      bare = λ _. U.none;
     }
 
 module _ (s : List ℕ) (a b : ℕ) (first : EndsBlanks s a b) where
-  pub enters-end : length s ≤ b → EntersItem s a true b 0 0
+  pub enters-end : length s ≤ b → EntersItem s a true b 0 0 false
   enters-end h = enters-nothing s a b (first .onward) (first .within) (λ w key rest e f. omega (arith, name-head s a b first w key rest e f .inside))
 
-  module _ (e : ℕ) (name : EndsString s (b + 1) e) (c : ℕ) (second : EndsBlanks s e c) where
-    pub enters-no-colon : length s ≤ c → EntersItem s a true c 0 0
+  module _ (e : ℕ) (o : Bool) (name : EndsName s (b + 1) e o) (c : ℕ) (second : EndsBlanks s e c) where
+    pub enters-no-colon : length s ≤ c → EntersItem s a true c 0 0 false
     enters-no-colon h =
-        enters-nothing s a c (omega (arith, first .onward, name .onward, second .onward)) (second .within)
-        (λ w key rest d f. omega (arith, colon-head s a b first w key rest d f e name c second .inside))
+        enters-nothing s a c (omega (arith, first .onward, name .ends .onward, second .onward)) (second .within)
+        (λ w key rest d f. omega (arith, colon-head s a b first w key rest d f e (name .ends) c second .inside))
 
-    pub enters-no-name : e ≤ b + 1 → EntersItem s a true c 0 0
+    pub enters-no-name : e ≤ b + 1 → EntersItem s a true c 0 0 false
     enters-no-name h =
-        enters-nothing s a c (omega (arith, first .onward, name .onward, second .onward)) (second .within)
-        (λ w key rest d f. omega (arith, name-end s a b first w key rest d f e name))
+        enters-nothing s a c (omega (arith, first .onward, name .ends .onward, second .onward)) (second .within)
+        (λ w key rest d f. omega (arith, name-end s a b first w key rest d f e (name .ends)))
 
-    pub enters-member : b + 1 < e → (v : ℕ) → EndsBlanks s (c + 1) v → EntersItem s a true v (b + 1) (e - 1)
+    pub enters-member : b + 1 < e → (v : ℕ) → EndsBlanks s (c + 1) v → EntersItem s a true v (b + 1) (e - 1) o
     enters-member h v third =
         record {
-          onward = omega (arith, first .onward, name .onward, second .onward, third .onward);
+          onward = omega (arith, first .onward, name .ends .onward, second .onward, third .onward);
           within = third .within;
           name-order = omega arith;
-          name-within = omega (arith, name .within);
-          exact = λ w key rest d f. (value-is s a b first w key rest d f e name c second v third, name-bytes s a b first w key rest d f e name);
+          name-within = omega (arith, name .ends .within);
+          exact = λ w key rest d f.
+              (value-is s a b first w key rest d f e (name .ends) c second v third, name-bytes s a b first w key rest d f e (name .ends));
+          bare = name .bare;
         }
 
 -- a byte ends a word by its class
@@ -438,5 +444,5 @@ module _ {s : List ℕ} {a i q : ℕ} (w : Within s a i) (run : Run unquoted s i
       }
 
 -- what holds of an item in a container of one kind holds where the flag says that kind
-pub enters-as : {s : List ℕ} {a v x y : ℕ} (o p : Bool) → o ≡ p → EntersItem s a p v x y → EntersItem s a o v x y
+pub enters-as : {s : List ℕ} {a v x y : ℕ} {b : Bool} (o p : Bool) → o ≡ p → EntersItem s a p v x y b → EntersItem s a o v x y b
 enters-as o p e h = rw e h

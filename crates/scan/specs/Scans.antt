@@ -2,10 +2,11 @@
 use mathlib.Core.Path.{_≡_}
 use mathlib.Core.List.{List, [], _∷_}
 use mathlib.Core.Bool.{Bool, true, false, not}
-use Prim.Native.Nat.{ℕ, _+_, _≤_}
+use Prim.Native.Nat.{ℕ, _+_, _-_, _≤_}
 use lib.ListN.{length, drop}
 use lib.Seq.{slice}
 use Rattle.encoding.specs.Bytes.{Blanks, putBlanks}
+use Rattle.encoding.specs.Unescape.{NoBackslash}
 use Rattle.json.specs.Grammar.{Char, Kind, array, object, Key, Value, literal, number, string, container, putChars, putKey, putValue}
 use Rattle.select.specs.Nodes.{size, keySize}
 use Rattle.scan.specs.Shape.{endsWord, solid, stopped}
@@ -33,6 +34,11 @@ pub record EndsString (s : List ℕ) (a r : ℕ) : Type 0 where
   pub within : r ≤ length s
   pub exact : (cs : List Char) (rest : List ℕ) → drop a s ≡ putChars cs (0x22 ∷ rest) → r ≡ a + length (putChars cs []) + 1
 
+-- the same of a name, and whether a backslash may be among its bytes
+pub record EndsName (s : List ℕ) (a r : ℕ) (escaped : Bool) : Type 0 where
+  pub ends : EndsString s a r
+  pub bare : escaped ≡ false → NoBackslash (slice a (r - 1) s)
+
 -- the place after a scalar
 pub record EndsScalar (s : List ℕ) (a r : ℕ) : Type 0 where
   pub onward : a ≤ r
@@ -48,8 +54,8 @@ abbrev pub NameAt : (k : Kind) → Key k → List ℕ → (x y : ℕ) → Type 0
 NameAt array key s x y = Unit {0}
 NameAt object key s x y = slice x y s ≡ putChars (key .chars) []
 
--- the first byte of the value of an item that stands at a, and where its name's bytes are
-pub record EntersItem (s : List ℕ) (a : ℕ) (isObject : Bool) (v x y : ℕ) : Type 0 where
+-- the first byte of the value of an item that stands at a, where its name's bytes are, and whether a backslash may be among these
+pub record EntersItem (s : List ℕ) (a : ℕ) (isObject : Bool) (v x y : ℕ) (escaped : Bool) : Type 0 where
   pub onward : a ≤ v
   pub within : v ≤ length s
   pub name-order : x ≤ y
@@ -57,3 +63,4 @@ pub record EntersItem (s : List ℕ) (a : ℕ) (isObject : Bool) (v x y : ℕ) :
   pub exact : (w : Blanks) (key : Key (kindIf isObject)) (rest : List ℕ)
       → drop a s ≡ putBlanks w (putKey (kindIf isObject) key rest) → solid rest ≡ true
       → (v ≡ a + length w + keySize (kindIf isObject) key) × NameAt (kindIf isObject) key s x y
+  pub bare : escaped ≡ false → NoBackslash (slice x y s)

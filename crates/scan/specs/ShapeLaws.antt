@@ -13,12 +13,14 @@ use Rattle.encoding.specs.Bytes.{In, putIn, Blank, Blanks, blankByte, putBlanks
 use Rattle.encoding.specs.BytesLaws.{in-bounds}
 use Rattle.encoding.specs.Class.{classOf}
 use Rattle.encoding.specs.ClassLaws as Class
+use Rattle.encoding.specs.Hex as H
+use Rattle.encoding.specs.Hex.{Hex, hexByte}
 use Rattle.encoding.specs.Utf8 as U
 use Rattle.encoding.specs.Utf8.{Wide, putWide}
 use Rattle.json.specs.Grammar as G
-use Rattle.json.specs.Grammar.{Literal, Minus, Int, Frac, Exp, escapeByte, Hex, hexByte, Char, Kind, Key, Value, More}
+use Rattle.json.specs.Grammar.{Literal, Minus, Int, Frac, Exp, escapeByte, Char, Kind, Key, Value, More}
 use Rattle.json.specs.Grammar.{putLiteral, putMinus, putInt, putFrac, putExp, putExpSign, putChar, putChars, putString, putKey, putValue, putMore}
-use Rattle.swar.specs.Kinds.{inner, gap}
+use Rattle.swar.specs.Kinds.{inner, gap, bare}
 use Rattle.scan.specs.Scans.{isWordByte}
 use Rattle.scan.specs.Shape.{endsWord, solid, starts, stopped, wordy, Piece, plain, escaped, putPieces}
 
@@ -197,14 +199,12 @@ inner-word b e = rw (ne-eqb (classOf b) 2 closing, ne-eqb (classOf b) 4 comma, n
     blank h = let w = Class.blank-class b .0 h in no-blank (w .0) (w .1)
 
 -- the characters of a string as pieces
-abbrev inert : ℕ → Bool
-inert b = not (eqb b 0x22 || eqb b 0x5C)
-
-plain-in : {lo hi : ℕ} → T (passes lo hi inert) → In lo hi → Piece
-plain-in t x = plain (x .byte) (not-true (eqb (x .byte) 0x22 || eqb (x .byte) 0x5C) (in-range inert t x))
+plain-in : {lo hi : ℕ} → T (passes lo hi bare) → In lo hi → Piece
+unfolding bare
+plain-in t x = plain (x .byte) (not-true (eqb (x .byte) 0x22 || eqb (x .byte) 0x5C) (in-range bare t x))
 
 wide-pieces : Wide → List Piece
-unfolding passes
+unfolding passes bare
 wide-pieces (U.c2-df x y) = plain-in tt x ∷ plain-in tt y ∷ []
 wide-pieces (U.e0 x y z) = plain-in tt x ∷ plain-in tt y ∷ plain-in tt z ∷ []
 wide-pieces (U.e1-ec x y z) = plain-in tt x ∷ plain-in tt y ∷ plain-in tt z ∷ []
@@ -215,13 +215,13 @@ wide-pieces (U.f1-f3 x y z w) = plain-in tt x ∷ plain-in tt y ∷ plain-in tt 
 wide-pieces (U.f4 x y z w) = plain-in tt x ∷ plain-in tt y ∷ plain-in tt z ∷ plain-in tt w ∷ []
 
 hex-piece : Hex → Piece
-unfolding passes
-hex-piece (G.digit x) = plain-in tt x
-hex-piece (G.upper x) = plain-in tt x
-hex-piece (G.lower x) = plain-in tt x
+unfolding passes bare
+hex-piece (H.digit x) = plain-in tt x
+hex-piece (H.upper x) = plain-in tt x
+hex-piece (H.lower x) = plain-in tt x
 
 char-pieces : Char → List Piece
-unfolding passes
+unfolding passes bare
 char-pieces (G.low x) = plain-in tt x ∷ []
 char-pieces (G.mid x) = plain-in tt x ∷ []
 char-pieces (G.high x) = plain-in tt x ∷ []
@@ -253,9 +253,9 @@ wide-are (U.f4 x y z w) s = refl
 
 hex-are : (h : Hex) (ps : List Piece) (s : List ℕ) → hexByte h ∷ putPieces ps s ≡ putPieces (hex-piece h ∷ ps) s
 unfolding putPieces hex-piece plain-in
-hex-are (G.digit x) ps s = refl
-hex-are (G.upper x) ps s = refl
-hex-are (G.lower x) ps s = refl
+hex-are (H.digit x) ps s = refl
+hex-are (H.upper x) ps s = refl
+hex-are (H.lower x) ps s = refl
 
 char-are : (c : Char) (s : List ℕ) → putChar c s ≡ putPieces (char-pieces c) s
 unfolding putChar putPieces char-pieces plain-in
@@ -275,3 +275,33 @@ unfolding putChars putPieces pieces
 chars-are [] s = refl
 chars-are (c ∷ cs) s =
     ap (putChar c) (chars-are cs s) ∙ char-are c (putPieces (pieces cs) s) ∙ sym (pieces-append (char-pieces c) (pieces cs) s)
+
+-- every byte of a list is of the kind
+abbrev pub AllOf : (ℕ → Bool) → List ℕ → Type 0
+AllOf p [] = Unit {0}
+AllOf p (b ∷ xs) = (p b ≡ true) × AllOf p xs
+
+-- a character is an escape, or has neither a quote nor a backslash
+wide-bare : (p : Wide) → AllOf bare (putWide p [])
+unfolding putWide passes bare
+wide-bare (U.c2-df x y) = (in-range bare tt x, (in-range bare tt y, tt))
+wide-bare (U.e0 x y z) = (in-range bare tt x, (in-range bare tt y, (in-range bare tt z, tt)))
+wide-bare (U.e1-ec x y z) = (in-range bare tt x, (in-range bare tt y, (in-range bare tt z, tt)))
+wide-bare (U.ed x y z) = (in-range bare tt x, (in-range bare tt y, (in-range bare tt z, tt)))
+wide-bare (U.ee-ef x y z) = (in-range bare tt x, (in-range bare tt y, (in-range bare tt z, tt)))
+wide-bare (U.f0 x y z w) = (in-range bare tt x, (in-range bare tt y, (in-range bare tt z, (in-range bare tt w, tt))))
+wide-bare (U.f1-f3 x y z w) = (in-range bare tt x, (in-range bare tt y, (in-range bare tt z, (in-range bare tt w, tt))))
+wide-bare (U.f4 x y z w) = (in-range bare tt x, (in-range bare tt y, (in-range bare tt z, (in-range bare tt w, tt))))
+
+pub data CharShape (c : Char) : Type 0 where
+  escape : ((s : List ℕ) → (u : List ℕ) × (putChar c s ≡ 0x5C ∷ u)) → CharShape c
+  itself : AllOf bare (putChar c []) → CharShape c
+
+pub char-shape : (c : Char) → CharShape c
+unfolding putChar passes bare
+char-shape (G.low x) = itself (in-range bare tt x, tt)
+char-shape (G.mid x) = itself (in-range bare tt x, tt)
+char-shape (G.high x) = itself (in-range bare tt x, tt)
+char-shape (G.wide p) = itself (wide-bare p)
+char-shape (G.escaped x) = escape (λ s. (_, refl))
+char-shape (G.unicode x y z w) = escape (λ s. (_, refl))

@@ -7,17 +7,25 @@ ghost use Rattle.blocks.specs.Words.{oddBefore};
 ghost use Rattle.encoding.specs.ClassTable.{ClassTable};
 ghost use Rattle.swar.specs.Run.{Run};
 ghost use Rattle.scan.specs.Shape.{endsWord};
-ghost use Rattle.scan.specs.Scans.{isWordByte, EndsBlanks, EndsString, EndsScalar, EntersItem};
+ghost use Rattle.scan.specs.Scans.{isWordByte, EndsBlanks, EndsString, EndsName, EndsScalar, EntersItem};
 
 const QUOTE: u8 = 0x22;
 
 const BACKSLASH: u8 = 0x5C;
 
-// The first byte of an item's value, and where its name's bytes are; both ends are 0 in an array.
+// The place after a name's closing quote, and whether a backslash may be among the name's bytes; false where none is.
+struct NameEnd {
+    end: usize,
+    escaped: bool,
+}
+
+// The first byte of an item's value, where its name's bytes are, and whether a backslash may be among these; false where none is. In an array both
+// ends are 0.
 pub struct Entered {
     pub value: usize,
     pub from: usize,
     pub to: usize,
+    pub escaped: bool,
 }
 
 // Whether `b` ends a literal or a number.
@@ -80,6 +88,26 @@ pub fn string_end(s: &[u8], at: usize) -> usize
     }
 }
 
+// The end of the name whose opening quote stands just before `at`: a quote with no backslash before it ends the name at once.
+fn name_end(s: &[u8], at: usize) -> NameEnd
+    requires { ⌜ at ≤ length (now s) ⌝ }
+    ensures { λ r. ⌜ EndsName (now (s .entry)) at (r .end) (r .escaped) ⌝ }
+{
+    let q = swar::bare_run(s, at);
+    if q < s.len() {
+        if s[q] == QUOTE {
+            return NameEnd {
+                end: q + 1,
+                escaped: false,
+            };
+        }
+    }
+    NameEnd {
+        end: string_end(s, q),
+        escaped: true,
+    }
+}
+
 // The end of the bytes from `at` on that do not end a literal or a number: most of them are passed eight at a time.
 fn word_run(classes: &[u8; 256], s: &[u8], at: usize) -> usize
     requires { ⌜ at ≤ length (now s) ⌝ }
@@ -117,7 +145,7 @@ pub fn scalar_end(classes: &[u8; 256], s: &[u8], at: usize) -> usize
 // Passes the blanks at `at` and, in an object, the name and its colon: the first byte of the item's value.
 pub fn enter_item(s: &[u8], at: usize, object: bool) -> Entered
     requires { ⌜ at ≤ length (now s) ⌝ }
-    ensures { λ r. ⌜ EntersItem (now (s .entry)) at object (r .value) (r .from) (r .to) ⌝ }
+    ensures { λ r. ⌜ EntersItem (now (s .entry)) at object (r .value) (r .from) (r .to) (r .escaped) ⌝ }
 {
     let a = skip_blanks(s, at);
     if !object {
@@ -125,6 +153,7 @@ pub fn enter_item(s: &[u8], at: usize, object: bool) -> Entered
             value: a,
             from: 0,
             to: 0,
+            escaped: false,
         };
     }
     if a >= s.len() {
@@ -132,16 +161,19 @@ pub fn enter_item(s: &[u8], at: usize, object: bool) -> Entered
             value: a,
             from: 0,
             to: 0,
+            escaped: false,
         };
     }
     let from = a + 1;
-    let end = string_end(s, from);
+    let name = name_end(s, from);
+    let end = name.end;
     let colon = skip_blanks(s, end);
     if colon >= s.len() {
         return Entered {
             value: colon,
             from: 0,
             to: 0,
+            escaped: false,
         };
     }
     if end <= from {
@@ -149,6 +181,7 @@ pub fn enter_item(s: &[u8], at: usize, object: bool) -> Entered
             value: colon,
             from: 0,
             to: 0,
+            escaped: false,
         };
     }
     let value = skip_blanks(s, colon + 1);
@@ -156,5 +189,6 @@ pub fn enter_item(s: &[u8], at: usize, object: bool) -> Entered
         value,
         from,
         to: end - 1,
+        escaped: name.escaped,
     }
 }

@@ -48,8 +48,8 @@ module _ (s : List ℕ) (o a : ℕ) (isObject : Bool) (n : ℕ) where
       }
 
   -- an item is ahead, its value stands at v, and in it e was found
-  module _ (i : ℕ) (item : Bool) (g : Going item i) (f : item ≡ true) (v x y : ℕ) (entered : EntersItem s i isObject v x y)
-      (e r : ℕ) (h : SeeksValue s o v n e r) where
+  module _ (i : ℕ) (item : Bool) (g : Going item i) (f : item ≡ true)
+      (v x y : ℕ) (escaped : Bool) (entered : EntersItem s i isObject v x y escaped) (e r : ℕ) (h : SeeksValue s o v n e r) where
     own : {rest : List ℕ} {way : Way} {goal end : ℕ} (z : ItemAhead s rest (kindIf isObject) way o n goal end i)
         → SeeksValue s o (valueAt (kindIf isObject) i (z .w) (z .key)) n e r
     own {rest} z =

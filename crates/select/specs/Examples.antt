@@ -3,7 +3,8 @@ use mathlib.Core.Path.{_≡_, refl}
 use mathlib.Core.List.{List, [], _∷_}
 use mathlib.Core.Bool.{true, false}
 use Prim.Native.Nat.{ℕ}
-use Rattle.json.specs.Grammar.{Char, high, digit, unicode, unsigned, whole, nofrac, noexp, array, object}
+use Rattle.encoding.specs.Hex.{digit}
+use Rattle.json.specs.Grammar.{Char, high, unicode, unsigned, whole, nofrac, noexp, array, object}
 use Rattle.json.specs.Grammar.{Key, Value, number, container, empty, items, end, more, Tree, text}
 use Rattle.query.specs.Steps.{Step, name, every, position}
 use Rattle.select.specs.Marks.{Peak}
@@ -96,8 +97,8 @@ shorter : spans (just (one lot unit)) (plain (0x6C ∷ 0x6F ∷ 0x74 ∷ 0x73 �
 unfolding spans
 shorter = refl
 
--- `$.a` on {"\u0061":1}: no escape is decoded
-undecoded :
+-- `$.a` on {"\u0061":1}: an escape is decoded
+unescaped :
     spans
     (just
     (one
@@ -109,9 +110,9 @@ undecoded :
     ∷ [])
     unit))
     (plain (0x61 ∷ []) ∷ [])
-    ≡ []
+    ≡ span 10 11 ∷ []
 unfolding spans
-undecoded = refl
+unescaped = refl
 
 -- `$.*` on [1] and on {"a":1}: `*` takes elements and members
 elements : spans (just (single unit)) (all ∷ []) ≡ span 1 2 ∷ []

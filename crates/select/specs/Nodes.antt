@@ -2,10 +2,11 @@
 use mathlib.Core.List.{List, [], _∷_, List·Memᴰ}
 use Prim.Native.Nat.{ℕ, _+_}
 use lib.ListN.{length}
-use Rattle.json.specs.Grammar.{putChars, Kind, array, object, Key, putKey, Value, literal, number}
+use Rattle.json.specs.Grammar.{Kind, array, object, Key, putKey, Value, literal, number}
 use Rattle.json.specs.Grammar.{string, container, Items, empty, items, More, end, more, putValue, Tree}
+use Rattle.json.specs.Points.{pointsOf}
 
--- how a node hangs below its parent: by a name, as its bytes stand between the quotes, or by its position in an array, from 0
+-- how a node hangs below its parent: by a name, as the code points that it spells, or by its position in an array, from 0
 pub data Label : Type 0 where
   member : List ℕ → Label
   element : ℕ → Label
@@ -34,9 +35,9 @@ unfoldable pub root : Tree → Node
 root t = record { value = t .value; first = length (t .before) }
 
 unfoldable pub labelOf : (k : Kind) → Key k → ℕ → Label
-unfolding putChars
+unfolding pointsOf
 labelOf array key j = element j
-labelOf object key j = member (putChars (key .chars) [])
+labelOf object key j = member (pointsOf (key .chars))
 
 pub record Child : Type 0 where
   pub label : Label

@@ -6,8 +6,8 @@ use Rattle.query.specs.Steps.{Selector, name, every, position, Step}
 use Rattle.json.specs.Grammar.{Tree}
 use Rattle.select.specs.Nodes.{Label, member, element, Node, IsChild, Below, root}
 
--- `*` takes every member of an object and every element of an array; a name takes members only, by its bytes as written; a position takes
--- the element of an array that has it, and nothing of an object (change request S-1)
+-- `*` takes every member of an object and every element of an array; a name takes members only, those whose name has the same code points
+-- (RFC 9535 §2.3.1.2, change request S-2); a position takes the element of an array that has it, and nothing of an object (change request S-1)
 abbrev pub Hits : Selector → Label → Type 0
 Hits every l = Unit {0}
 Hits (name k) (member k′) = k ≡ k′

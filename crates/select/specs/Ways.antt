@@ -4,17 +4,17 @@ use mathlib.Core.Bool.{Bool, true, false, _&&_, _||_, Bool·beq}
 use Prim.Native.Nat.{ℕ, zero, suc, _+_, max}
 use lib.Dec.{ltb, eqb}
 use lib.ListN.{length, take, getElem?}
-use Rattle.encoding.specs.Bytes.{sameBytes}
+use Rattle.encoding.specs.Bytes.{sameNumbers}
 use Rattle.json.specs.Grammar.{Value, literal, number, string, container, Tree}
 use Rattle.query.specs.Steps.{Selector, name, every, position, Step, isDeep}
 use Rattle.select.specs.Nodes.{Label, member, element, Node, endOf}
 use Rattle.select.specs.Visits.{Visit, Way, nodes}
 
--- a selector takes the child with this label (document 01: "Names are compared byte for byte as written between their quotes")
+-- a selector takes the child with this label; names are compared by their code points
 unfoldable pub hits : Selector → Label → Bool
-unfolding sameBytes
+unfolding sameNumbers
 hits every l = true
-hits (name k) (member k′) = sameBytes k k′
+hits (name k) (member k′) = sameNumbers k k′
 hits (name k) (element j) = false
 hits (position j) (member k) = false
 hits (position j) (element j′) = eqb j j′

@@ -1,6 +1,6 @@
 -- Which bytes are of which kind, both ways.
-use mathlib.Core.Path.{_≡_, refl, sym, ap, _∙_}
-use mathlib.Core.Bool.{Bool, true, false, true≢false}
+use mathlib.Core.Path.{_≡_, refl, sym, ap, ap₂, _∙_}
+use mathlib.Core.Bool.{Bool, true, false, not, true≢false}
 use mathlib.Core.Logic.{_⊎_, inl, inr}
 use Prim.Native.Nat.{ℕ, _≤_, _<_}
 use native.Mathlib.Omega.{arith}
@@ -10,7 +10,7 @@ use Rattle.encoding.specs.Bytes.{Blank, space, tab, feed, return, blankByte}
 use Rattle.encoding.specs.BytesLaws.{inside, beneath, beyond}
 use Rattle.encoding.specs.Class.{classOf}
 use Rattle.encoding.specs.ClassLaws as Class
-use Rattle.swar.specs.Kinds.{plain, unquoted, gap, blank, spaceByte, runKind}
+use Rattle.swar.specs.Kinds.{plain, unquoted, bare, gap, blank, spaceByte, runKind}
 
 -- a plain byte, by the range that it is of
 pub data Plain (b : ℕ) : Type 0 where
@@ -107,6 +107,14 @@ module _ {b : ℕ} where
       go (inr (backslash e)) = absurd (s e)
       go (inr (wide u)) = absurd (omega arith)
 
+  pub bare-quote : b ≡ 0x22 → bare b ≡ false
+  unfolding bare
+  bare-quote e = rw e
+
+  pub bare-else : (b ≡ 0x22 → ⊥) → not (eqb b 0x5C) ≡ bare b
+  unfolding bare
+  bare-else f = rw (ne-eqb b 0x22 f)
+
   pub gap-holds : b ≤ 0x20 → gap b ≡ true
   unfolding gap
   gap-holds h = le-leb b 0x20 h
@@ -123,10 +131,16 @@ module _ {k : ℕ} where
   pub kind-unquoted : k ≡ 1 → runKind k ≡ unquoted
   kind-unquoted e = rw e
 
-  pub kind-plain : (k ≡ 2 → ⊥) → (k ≡ 1 → ⊥) → runKind k ≡ plain
-  kind-plain g u =
-      ap (λ (x : Bool). elim x [ true ↦ gap | false ↦ elim (eqb k 1) [ true ↦ unquoted | false ↦ plain ] ]) (ne-eqb k 2 g)
-      ∙ ap (λ (x : Bool). elim x [ true ↦ unquoted | false ↦ plain ]) (ne-eqb k 1 u)
+  pub kind-bare : k ≡ 3 → runKind k ≡ bare
+  kind-bare e = rw e
+
+  pub kind-plain : (k ≡ 2 → ⊥) → (k ≡ 1 → ⊥) → (k ≡ 3 → ⊥) → runKind k ≡ plain
+  kind-plain g u b =
+      ap (λ (x : Bool). elim x [ true ↦ gap | false ↦ rest (eqb k 1) (eqb k 3) ]) (ne-eqb k 2 g)
+      ∙ ap₂ rest (ne-eqb k 1 u) (ne-eqb k 3 b)
+    where
+      rest : Bool → Bool → ℕ → Bool
+      rest x y = elim x [ true ↦ unquoted | false ↦ elim y [ true ↦ bare | false ↦ plain ] ]
 
 pub space-blank : (b : ℕ) → spaceByte b ≡ true → blank b ≡ true
 unfolding spaceByte

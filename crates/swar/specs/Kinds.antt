@@ -12,6 +12,10 @@ plain b = (leb 0x20 b && leb b 0x21) || ((leb 0x23 b && leb b 0x5B) || (leb 0x5D
 unfoldable pub unquoted : ℕ → Bool
 unquoted b = not (eqb b 0x22)
 
+-- a byte that is neither a quote nor a backslash
+unfoldable pub bare : ℕ → Bool
+bare b = not (eqb b 0x22 || eqb b 0x5C)
+
 -- a blank, by its class
 unfoldable pub blank : ℕ → Bool
 unfolding classOf
@@ -34,4 +38,5 @@ gap b = leb b 0x20
 
 -- the kinds whose runs are read eight bytes at a time, by number
 abbrev pub runKind : ℕ → ℕ → Bool
-runKind k = elim (eqb k 2) [ true ↦ gap | false ↦ elim (eqb k 1) [ true ↦ unquoted | false ↦ plain ] ]
+runKind k =
+    elim (eqb k 2) [ true ↦ gap | false ↦ elim (eqb k 1) [ true ↦ unquoted | false ↦ elim (eqb k 3) [ true ↦ bare | false ↦ plain ] ] ]

@@ -41,6 +41,10 @@ onWord byte x = x
 onWord (same m) x = m * 0x0101010101010101
 onWord (both o e f) x = onWords o (onWord e x) (onWord f x)
 
+-- its highest bit is on at the byte m, and at no other below 80
+abbrev pub highAt : ℕ → Lane
+highAt m = both minus (both xor byte (same m)) (same 0x01)
+
 -- the numbers that are the same for each byte are bytes
 abbrev pub fits : Lane → Bool
 fits byte = true

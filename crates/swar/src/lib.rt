@@ -2,7 +2,7 @@
 ghost use Prim.Native.Nat.{_+_, _-_, _%_, _^_, _≤_};
 ghost use mathlib.Core.Path.{_≡_};
 ghost use lib.ListN.{length};
-ghost use Rattle.swar.specs.Kinds.{plain, unquoted, gap, blank, spaceByte, inner, digit, runKind};
+ghost use Rattle.swar.specs.Kinds.{plain, unquoted, bare, gap, blank, spaceByte, inner, digit, runKind};
 ghost use Rattle.swar.specs.Run.{Passed, Run};
 ghost use Rattle.swar.specs.Stops.{Stops, FirstByte};
 
@@ -28,12 +28,14 @@ const HIGHEST: u64 = 0x8080808080808080;
 
 const ALL: u64 = 0xffffffffffffffff;
 
-// The kinds of bytes whose runs are read eight bytes at a time: plain in a string, no quote, and up to the space.
+// The kinds of bytes whose runs are read eight bytes at a time: plain in a string, no quote, up to the space, and neither quote nor backslash.
 const PLAIN: u8 = 0;
 
 const UNQUOTED: u8 = 1;
 
 const GAP: u8 = 2;
+
+const BARE: u8 = 3;
 
 // Whether `b` is a plain byte of a string.
 fn is_plain(b: u8) -> bool
@@ -54,6 +56,16 @@ fn is_plain(b: u8) -> bool
     true
 }
 
+// Whether `b` is neither a quote nor a backslash.
+fn is_bare(b: u8) -> bool
+    ensures { λ r. ⌜ r ≡ bare b ⌝ }
+{
+    if b == QUOTE {
+        return false;
+    }
+    b != BACKSLASH
+}
+
 // Whether `b` is of the kind.
 fn is_of(b: u8, kind: u8) -> bool
     ensures { λ r. ⌜ r ≡ runKind kind b ⌝ }
@@ -63,6 +75,9 @@ fn is_of(b: u8, kind: u8) -> bool
     }
     if kind == UNQUOTED {
         return b != QUOTE;
+    }
+    if kind == BARE {
+        return is_bare(b);
     }
     is_plain(b)
 }
@@ -79,6 +94,15 @@ fn unquoted_stops(x: u64) -> u64
     ensures { λ r. ⌜ Stops unquoted x r ⌝ }
 {
     minus(x ^ 0x2222222222222222, EACH) & (x ^ ALL) & HIGHEST
+}
+
+// Of eight bytes, those before the first quote or backslash come back as 0, and that one not.
+fn bare_stops(x: u64) -> u64
+    ensures { λ r. ⌜ Stops bare x r ⌝ }
+{
+    let quote = minus(x ^ 0x2222222222222222, EACH);
+    let backslash = minus(x ^ 0x5c5c5c5c5c5c5c5c, EACH);
+    (quote | backslash) & (x ^ ALL) & HIGHEST
 }
 
 // Of eight bytes, those before the first that is not plain in a string come back as 0, and that one not.
@@ -125,6 +149,9 @@ fn stops(x: u64, kind: u8) -> u64
     }
     if kind == UNQUOTED {
         return unquoted_stops(x);
+    }
+    if kind == BARE {
+        return bare_stops(x);
     }
     plain_stops(x)
 }
@@ -181,6 +208,14 @@ pub fn unquoted_run(s: &[u8], at: usize) -> usize
     ensures { λ r. ⌜ Run unquoted (now (s .entry)) at r ⌝ }
 {
     run_bytes(s, at, UNQUOTED)
+}
+
+// The end of the bytes from `at` on that are neither quotes nor backslashes.
+pub fn bare_run(s: &[u8], at: usize) -> usize
+    requires { ⌜ at ≤ length (now s) ⌝ }
+    ensures { λ r. ⌜ Run bare (now (s .entry)) at r ⌝ }
+{
+    run_bytes(s, at, BARE)
 }
 
 // The end of the bytes up to the space from `at` on: at once where none stands there, or one alone.

@@ -13,8 +13,8 @@ use Rattle.automaton.specs.State.{next, start}
 use Rattle.automaton.specs.Tally.{tallied, fresh}
 use Rattle.pairs.specs.Pairs.{tally}
 
--- of a query q compiled into kinds and operands, a record s and a lent list: what the list holds afterwards, the pairs used, the most frames,
--- and one more than the first byte of the first node left over, or 0
-pub record Walks (q : List ℕ) (kinds : Kinds) (operands s list after : List ℕ) (used peak stop : ℕ) : Type 0 where
-  pub counts : (x : List Step) → Holds q x kinds operands → (t : Tree) → text t ≡ s → nesting (t .value) ≤ maxDepth
+-- of a query's names, kinds and operands, a record s and a lent list: what the list holds afterwards, the pairs used, the most frames, and one
+-- more than the first byte of the first node left over, or 0
+pub record Walks (names : List ℕ) (kinds : Kinds) (operands s list after : List ℕ) (used peak stop : ℕ) : Type 0 where
+  pub counts : (x : List Step) → Holds names x kinds operands → (t : Tree) → text t ≡ s → nesting (t .value) ≤ maxDepth
       → tallied (fresh list) (nodeVisits (next x) (root t) (start x)) ≡ tally after used peak stop

@@ -3,6 +3,8 @@ use lister::Answer;
 use lister::admit;
 use lister::conclude;
 use lister::refuse;
+use names::NAMES_SIZE;
+use names::Names;
 use plain::walk_plain;
 ghost use Rattle.lister.specs.Listed.{Listed};
 
@@ -11,10 +13,11 @@ ghost use Rattle.lister.specs.Listed.{Listed};
 pub fn list_plain(query: &[u8], record: &[u8], list: &mut [u32]) -> Answer
     ensures { λ r. ⌜ Listed (now (query .entry)) (now («record» .entry)) (now (list .entry)) (now (list .exit)) r ⌝ }
 {
-    let input = admit(query, record);
+    let mut names: Names = [0; NAMES_SIZE];
+    let input = admit(query, record, &mut names);
     if input.ground != 0 {
         return refuse(input.ground, input.place);
     }
-    let counts = walk_plain(query, input.steps, record, list);
+    let counts = walk_plain(&names, input.steps, record, list);
     conclude(counts)
 }

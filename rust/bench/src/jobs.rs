@@ -48,8 +48,9 @@ const T_BELOW_BLEND: &str = r#"
 /// The third element of every array.
 const THIRDS: &str = ".. | arrays | select(length > 2) | .[2]";
 
-/// Five queries on each record, and queries with positions on those with long arrays.
-pub const JOBS: [Job; 23] = [
+/// Five queries on each record but the one with escapes, which has two, and queries with positions on
+/// those with long arrays.
+pub const JOBS: [Job; 25] = [
     job("feed", CHECK, &[], "."),
     job("feed", PLAIN, &[".statuses", ".*", ".user", ".name"], ".statuses[].user.name"),
     job("feed", DEEP, &["..id"], r#".. | objects | select(has("id")) | .id"#),
@@ -57,6 +58,8 @@ pub const JOBS: [Job; 23] = [
     job("feed", DEAD, &[".search_metadata", ".count"], ".search_metadata.count"),
     job("feed", PLACED, &[".statuses", "[100]", ".user", ".name"], ".statuses[100].user.name"),
     job("feed", ALL_PLACED, &["..[2]"], THIRDS),
+    job("escaped", PLAIN, &[".statuses", ".*", ".user", ".name"], ".statuses[].user.name"),
+    job("escaped", DEEP, &["..id"], r#".. | objects | select(has("id")) | .id"#),
     job("numbers", CHECK, &[], "."),
     job("numbers", PLAIN, &[".*", ".coordinates", ".*", ".*"], ".[].coordinates[][]"),
     job("numbers", DEEP, &["..area"], r#".. | objects | select(has("area")) | .area"#),
@@ -92,12 +95,13 @@ mod tests {
         for (name, generator) in ALL {
             let record = generator(300_000);
             let jobs: Vec<&Job> = JOBS.iter().filter(|job| job.record == name).collect();
-            let kinds = [CHECK, PLAIN, DEEP, STAR, DEAD].iter().chain(match name {
-                "feed" => &[PLACED, ALL_PLACED][..],
-                "numbers" => &[ALL_PLACED],
-                _ => &[],
-            });
-            assert!(jobs.iter().map(|job| job.kind).eq(kinds.copied()));
+            let kinds = match name {
+                "feed" => &[CHECK, PLAIN, DEEP, STAR, DEAD, PLACED, ALL_PLACED][..],
+                "escaped" => &[PLAIN, DEEP],
+                "numbers" => &[CHECK, PLAIN, DEEP, STAR, DEAD, ALL_PLACED],
+                _ => &[CHECK, PLAIN, DEEP, STAR, DEAD],
+            };
+            assert!(jobs.iter().map(|job| job.kind).eq(kinds.iter().copied()));
             for job in jobs {
                 let nodes = woodcrock::list(job.query().as_bytes(), &record).map(|list| list.len());
                 assert!(nodes.is_ok_and(|nodes| nodes > 0), "{}", job.query());

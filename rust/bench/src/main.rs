@@ -85,7 +85,7 @@ fn options() -> Option<Options> {
     Some(options)
 }
 
-/// Makes the four records and the one of 1 KB.
+/// Makes the five records and the one of 1 KB.
 fn records(size: usize, folder: &Path) -> Result<Vec<Record>, String> {
     let short: (&str, large::Generator) = ("short", large::feed);
     let mut records = Vec::new();

@@ -155,7 +155,7 @@ fn times(jobs: &[&Measured], results: &Results, unit: f64) -> String {
     table(&head, &rows)
 }
 
-/// A table for each of the four records.
+/// A table for each of the five records.
 fn records(results: &Results) -> String {
     let mut text = String::new();
     for (name, _) in large::ALL {

@@ -87,7 +87,8 @@ fn passing_over_the_second_member_of_a_name() {
             let second = |start: u32| {
                 let node = tree.nodes.iter().find(|node| node.start == start).unwrap();
                 let mut same = tree.nodes.iter().filter(|other| {
-                    other.parent == node.parent && other.name_in(record) == node.name_in(record)
+                    (other.parent, other.name_points(record))
+                        == (node.parent, node.name_points(record))
                 });
                 node.name.is_some() && same.next().unwrap().start < start
             };
@@ -135,12 +136,119 @@ fn matching_the_beginning_of_a_name() {
     found_in_lists(|query, record, list| {
         with_nodes(query, record, list, |tree, steps, pairs| match steps {
             [Step { deep: true, selector: Selector::Name(name), .. }] => {
-                let begins = |bytes: Option<&[u8]>| bytes.is_some_and(|b| b.starts_with(name));
-                let nodes = tree.nodes.iter().filter(|node| begins(node.name_in(record)));
+                let begins = |points: Option<Vec<u32>>| points.is_some_and(|p| p.starts_with(name));
+                let nodes = tree.nodes.iter().filter(|node| begins(node.name_points(record)));
                 nodes.map(|node| (node.start, node.end)).collect()
             }
             _ => pairs,
         })
+    });
+}
+
+/// The lister with another comparison of a query's name and a name as it is written in the record.
+/// The peak stays right.
+fn with_names(
+    query: &[u8],
+    record: &[u8],
+    list: &mut [u32],
+    same: impl Fn(&[u32], &[u8]) -> bool,
+) -> Answer {
+    with_nodes(query, record, list, |tree, steps, _| {
+        let takes = |step: &Step, node: &Node| match &step.selector {
+            Selector::Name(name) => node.name_in(record).is_some_and(|written| same(name, written)),
+            _ => oracle::takes(step, record, node),
+        };
+        let chosen = oracle::picked_by(steps, tree, &takes);
+        let nodes = tree.nodes.iter().zip(chosen).filter(|(_, chosen)| *chosen);
+        nodes.map(|(node, _)| (node.start, node.end)).collect()
+    })
+}
+
+/// Asserts that the fault of a comparison of names is found in either walk.
+macro_rules! found_in_names {
+    ($same:expr) => {
+        found_in_lists(|query, record, list| with_names(query, record, list, $same))
+    };
+}
+
+/// A name's characters as numbers, with no escape decoded.
+fn undecoded(written: &[u8]) -> Vec<u32> {
+    std::str::from_utf8(written).unwrap().chars().map(u32::from).collect()
+}
+
+/// The code points of a name in which this text stands for that one.
+fn reading(written: &[u8], text: &str, for_text: &str) -> Vec<u32> {
+    oracle::code_points(String::from_utf8_lossy(written).replace(text, for_text).as_bytes())
+}
+
+#[test]
+fn faults_of_names() {
+    // One that compares a record's name as it is written.
+    found_in_names!(|name, written| name == undecoded(written));
+    // One that passes over halves.
+    found_in_names!(|name, written| {
+        let points = oracle::code_points(written).into_iter();
+        name.iter().copied().eq(points.filter(|point| !(0xD800..0xE000).contains(point)))
+    });
+    // One that joins a pair wrongly by one bit.
+    found_in_names!(|name, written| {
+        let wrong = u32::from(written.contains(&b'\\')) << 10;
+        let points = oracle::code_points(written).into_iter();
+        name.iter().copied().eq(points.map(|p| if p > 0xFFFF { p ^ wrong } else { p }))
+    });
+    // One that knows no digits in upper case.
+    found_in_names!(|name, written| {
+        let text = String::from_utf8_lossy(written);
+        let upper = text
+            .match_indices("\\u")
+            .any(|(at, _)| text.as_bytes()[at + 2..].iter().take(4).any(u8::is_ascii_uppercase));
+        !upper && name == oracle::code_points(written)
+    });
+    // One that decodes no `\/`, one that takes `\n` for an n.
+    found_in_names!(|name, written| name == reading(written, r"\/", r"\\/"));
+    found_in_names!(|name, written| name == reading(written, r"\n", "n"));
+    // One that takes a decoded name for each of its beginnings.
+    found_in_names!(|name, written| {
+        let points = oracle::code_points(written);
+        points == name || written.contains(&b'\\') && points.starts_with(name)
+    });
+}
+
+/// A lister that reads another query in the place of its own, if that one is taken.
+fn with_text(
+    query: &[u8],
+    record: &[u8],
+    list: &mut [u32],
+    other: impl Fn(&str) -> String,
+) -> Answer {
+    let other = std::str::from_utf8(query).map(other).unwrap_or_default();
+    let read = if oracle::taken_steps(other.as_bytes()).is_ok() { other.as_bytes() } else { query };
+    oracle::list(read, record, list)
+}
+
+#[test]
+fn faults_of_escapes_in_queries() {
+    // One that does not decode them.
+    found_in_lists(|query, record, list| {
+        with_text(query, record, list, |text| text.replace('\\', r"\\"))
+    });
+    // One that knows `\U`.
+    found_in_lists(|query, record, list| {
+        with_text(query, record, list, |text| text.replace(r"\U", r"\u"))
+    });
+    // Ones that take a low half alone, a high half alone, and any two halves for a pair.
+    found_in_lists(|query, record, list| {
+        with_text(query, record, list, |text| text.replace(r"\uDC00", r"\u6100"))
+    });
+    found_in_lists(|query, record, list| {
+        with_text(query, record, list, |text| text.replace(r"\uD800", r"\u6100"))
+    });
+    found_in_lists(|query, record, list| {
+        with_text(query, record, list, |text| text.replace(r"\uD83D\uD83D", r"\uD83D\uDE3D"))
+    });
+    // One that takes an escape of the other quote.
+    found_in_lists(|query, record, list| {
+        with_text(query, record, list, |text| text.replace(r"\'", "'"))
     });
 }
 

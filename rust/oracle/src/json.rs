@@ -4,6 +4,7 @@
 //! tree. Open containers are kept in a vector, so that no nesting is too deep for the machine's
 //! stack.
 
+use crate::names::code_points;
 use crate::utf8::code_point;
 
 /// The five kinds of value; `true`, `false` and `null` are one.
@@ -295,6 +296,11 @@ impl Node {
     /// The name's bytes as they are written between their quotes.
     pub fn name_in<'a>(&self, text: &'a [u8]) -> Option<&'a [u8]> {
         self.name.map(|(start, end)| &text[start as usize..end as usize])
+    }
+
+    /// The name's code points.
+    pub fn name_points(&self, text: &[u8]) -> Option<Vec<u32>> {
+        self.name_in(text).map(code_points)
     }
 }
 

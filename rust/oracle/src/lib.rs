@@ -2,12 +2,13 @@
 //! library has.
 //!
 //! It is written from RFC 8259, RFC 3629, RFC 9535 and these documents, which decide over them in
-//! three places, and from no other code. It builds a tree and evaluates by sets of nodes, in the
+//! two places, and from no other code. It builds a tree and evaluates by sets of nodes, in the
 //! words of the papers; it is meant to be read, and to be what other code is compared with.
 
 mod answers;
 mod json;
 mod meaning;
+mod names;
 mod picklist;
 mod query;
 mod utf8;
@@ -18,7 +19,8 @@ pub use answers::{
     NO_GROUND,
 };
 pub use json::{dead_byte, first_bracket_of_level, Kind, Node, Tree};
-pub use meaning::{frames, marks, peak, picked, takes};
+pub use meaning::{frames, marks, peak, picked, picked_by, takes};
+pub use names::code_points;
 pub use picklist::{picklist, MAX_INPUT, PICKLIST_PAIRS};
 pub use query::{read_steps, taken_steps, Selector, Step, MAX_POSITION, MAX_QUERY, MAX_STEPS};
 pub use utf8::code_point;

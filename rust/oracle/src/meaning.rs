@@ -6,12 +6,12 @@ use crate::json::{Node, Tree};
 use crate::query::{Selector, Step};
 
 /// Whether the plain form of a step takes this node from its parent: `*` takes every member and
-/// every element, a name takes the members whose name is written with the same bytes, a position
-/// takes the element of an array that has it.
+/// every element, a name takes the members whose name has the same code points (RFC 9535, section
+/// 2.3.1.2), a position takes the element of an array that has it.
 pub fn takes(step: &Step, record: &[u8], node: &Node) -> bool {
     match &step.selector {
         Selector::Every => node.parent.is_some(),
-        Selector::Name(name) => node.name_in(record) == Some(name),
+        Selector::Name(name) => node.name_points(record).as_ref() == Some(name),
         Selector::Position(position) => node.position.map(u64::from) == Some(*position),
     }
 }
@@ -33,12 +33,17 @@ fn with_all_below(set: &[bool], tree: &Tree) -> Vec<bool> {
 /// The nodes that a query picks out: the root alone without steps; with one step more every node
 /// that the last step takes from some node that the steps before it pick out.
 pub fn picked(steps: &[Step], record: &[u8], tree: &Tree) -> Vec<bool> {
+    picked_by(steps, tree, &|step, node| takes(step, record, node))
+}
+
+/// The same by another rule of what the plain form of a step takes.
+pub fn picked_by(steps: &[Step], tree: &Tree, takes: &impl Fn(&Step, &Node) -> bool) -> Vec<bool> {
     let Some((last, before)) = steps.split_last() else {
         return tree.nodes.iter().map(|node| node.parent.is_none()).collect();
     };
-    let before = picked(before, record, tree);
+    let before = picked_by(before, tree, takes);
     let from = if last.deep { with_all_below(&before, tree) } else { before };
-    let is_taken = |node| parent_in(&from, node) && takes(last, record, node);
+    let is_taken = |node| parent_in(&from, node) && takes(last, node);
     tree.nodes.iter().map(is_taken).collect()
 }
 

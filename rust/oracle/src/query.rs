@@ -1,6 +1,7 @@
 //! The part of RFC 9535 that document 01 states ("The part of RFC 9535"), and grounds 1 to 3.
 
 use crate::answers::Refusal;
+use crate::names::code_points;
 use crate::utf8::code_point;
 
 /// The most bytes of a query that is taken.
@@ -15,7 +16,8 @@ pub const MAX_POSITION: u64 = (1 << 53) - 1;
 #[derive(Clone, PartialEq, Eq, Debug)]
 pub enum Selector {
     Every,
-    Name(Vec<u8>),
+    /// The name's code points.
+    Name(Vec<u32>),
     Position(u64),
 }
 
@@ -104,7 +106,7 @@ impl Reading<'_> {
         while self.peek().is_some_and(|byte| begins_name(byte) || byte.is_ascii_digit()) {
             self.at = code_point(self.query, self.at)?;
         }
-        Ok(Selector::Name(self.query[start..self.at].to_vec()))
+        Ok(Selector::Name(code_points(&self.query[start..self.at])))
     }
 
     /// What stands in brackets after the opening one: one quoted name, one position or one `*`,
@@ -140,19 +142,63 @@ impl Reading<'_> {
         Selector::Position(number(length).expect("it fits"))
     }
 
-    /// A quoted name: no control below 20 (hexadecimal), no backslash, not its own quote.
+    /// A quoted name (RFC 9535, section 2.3.1.1): no control below 20 (hexadecimal), not its own
+    /// quote, and a backslash only where an escape begins.
     fn quoted(&mut self, quote: u8) -> Result<Selector, Stop> {
         self.at += 1;
         let start = self.at;
         while self.peek() != Some(quote) {
             match self.peek() {
-                None | Some(0x00..=0x1F) | Some(b'\\') => return Err(self.at),
+                None | Some(0x00..=0x1F) => return Err(self.at),
+                Some(b'\\') => self.escape(quote)?,
                 Some(_) => self.at = code_point(self.query, self.at)?,
             }
         }
-        let name = self.query[start..self.at].to_vec();
+        let name = code_points(&self.query[start..self.at]);
         self.at += 1;
         Ok(Selector::Name(name))
+    }
+
+    /// One byte of those that are asked for.
+    fn one(&mut self, is_asked_for: impl Fn(u8) -> bool) -> Result<u8, Stop> {
+        let byte = self.peek().filter(|&byte| is_asked_for(byte)).ok_or(self.at)?;
+        self.at += 1;
+        Ok(byte)
+    }
+
+    /// A backslash, and one of `b f n r t / \`, the name's own quote, or `u` and hexadecimal digits.
+    fn escape(&mut self, quote: u8) -> Result<(), Stop> {
+        self.at += 1;
+        let short = |byte| byte == quote || b"bfnrt/\\u".contains(&byte);
+        match self.one(short)? {
+            b'u' => self.hexchar(),
+            _ => Ok(()),
+        }
+    }
+
+    /// `hexchar`: four digits that are no half of a surrogate pair, or a high half and, as another
+    /// escape, a low half.
+    fn hexchar(&mut self) -> Result<(), Stop> {
+        let is_digit = |byte: u8| byte.is_ascii_hexdigit();
+        let is_d = |byte: u8| byte.eq_ignore_ascii_case(&b'D');
+        let below_c = |byte: u8| is_digit(byte) && byte.to_ascii_uppercase() < b'C';
+        let is_half = if is_d(self.one(is_digit)?) {
+            self.one(below_c)? > b'7'
+        } else {
+            self.one(is_digit)?;
+            false
+        };
+        self.one(is_digit)?;
+        self.one(is_digit)?;
+        if is_half {
+            self.one(|byte| byte == b'\\')?;
+            self.one(|byte| byte == b'u')?;
+            self.one(is_d)?;
+            self.one(|byte| is_digit(byte) && byte.to_ascii_uppercase() >= b'C')?;
+            self.one(is_digit)?;
+            self.one(is_digit)?;
+        }
+        Ok(())
     }
 }
 

@@ -135,7 +135,8 @@ fn strings_by_the_standard_library() {
     }
 }
 
-/// Document 01, "The part of RFC 9535", with positions, and with one letter for each class of bytes.
+/// Document 01, "The part of RFC 9535", with positions but no escapes, and with one letter for each
+/// class of bytes.
 const QUERIES: &[Rule] = &[
     ("query", &["$ steps"]),
     ("steps", &["", "blanks step steps"]),
@@ -153,6 +154,25 @@ const QUERIES: &[Rule] = &[
     ("blanks", &["", "SP blanks"]),
 ];
 
+/// RFC 9535, section 2.3.1.1: the escapes of quoted names.
+const QUERY_ESCAPES: &[Rule] = &[
+    ("query", &["$ steps"]),
+    ("steps", &["", "[ ' single ' ] steps", "[ \" double \" ] steps", "[ position ] steps"]),
+    ("position", &["0", "8 digits"]),
+    ("digits", &["", "0 digits", "8 digits"]),
+    ("single", &["", "common single", "\" single", "\\ ' single"]),
+    ("double", &["", "common double", "' double", "\\ \" double"]),
+    ("common", &["letter", "\\ /", "\\ \\", "\\ u hexchar"]),
+    ("letter", &["u", "U", "D", "d", "C", "8", "0", "/", "$", "[", "]"]),
+    ("hexchar", &["non-surrogate", "high-surrogate \\ u low-surrogate"]),
+    ("non-surrogate", &["not-d hex hex hex", "d-either 0 hex hex"]),
+    ("high-surrogate", &["d-either 8 hex hex"]),
+    ("low-surrogate", &["d-either C hex hex", "d-either d-either hex hex"]),
+    ("not-d", &["0", "8", "C"]),
+    ("d-either", &["d", "D"]),
+    ("hex", &["0", "8", "C", "d-either"]),
+];
+
 /// The dead byte of a query.
 fn dead_query_byte(query: &[u8]) -> Option<usize> {
     read_steps(query).err()
@@ -163,4 +183,20 @@ fn queries() {
     dead_bytes_agree(QUERIES, b"$.*[]'\"a1 ", 6, dead_query_byte);
     dead_bytes_agree(QUERIES, b"$.[]'\xC3\xA9", 7, dead_query_byte);
     dead_bytes_agree(QUERIES, b"$[]01 ", 7, dead_query_byte);
+}
+
+#[test]
+fn escapes_of_queries() {
+    dead_bytes_agree(QUERY_ESCAPES, b"$[]'\"\\/uU0", 7, dead_query_byte);
+    // From the first digit on, and from the third of a high half.
+    rest_agrees(b"$['\\u", &["hexchar single ' ] steps"], b"'\\udDC80", 6);
+    rest_agrees(b"$['\\uD8", &["hex hex \\ u low-surrogate single ' ] steps"], b"'\\uUDC80", 8);
+}
+
+/// The dead bytes of queries that begin so, with these parts as the rest.
+fn rest_agrees(before: &[u8], rest: &'static [&'static str], letters: &[u8], longest: usize) {
+    let rules = [&[("rest", rest)], QUERY_ESCAPES].concat();
+    dead_bytes_agree(&rules, letters, longest, |bytes| {
+        dead_query_byte(&[before, bytes].concat()).map(|place| place - before.len())
+    });
 }

@@ -39,7 +39,26 @@ const DEAD_QUERIES: &[(&[u8], usize)] = &[
     (b"$['a'x", 5),
     (b"$['a','b']", 5),
     (b"$[*,*]", 3),
-    (b"$['a\\n']", 4),
+    (b"$['\\", 4),
+    (b"$['\\'", 5),
+    (b"$['\\x']", 4),
+    (b"$['\\\"']", 4),
+    (b"$[\"\\'\"]", 4),
+    (b"$['\\U0041']", 4),
+    (b"$['\\u']", 5),
+    (b"$['\\u004']", 8),
+    (b"$['\\u00g1']", 7),
+    (b"$['\\uDC00']", 6),
+    (b"$['\\udfff']", 6),
+    (b"$['\\uD800']", 9),
+    (b"$['\\uD800", 9),
+    (b"$['\\uD800\\n']", 10),
+    (b"$['\\uD800\\U']", 10),
+    (b"$['\\uD800\\u0041']", 11),
+    (b"$['\\uD800\\uD800']", 12),
+    (b"$['\\uDBFF\\uDBFF']", 12),
+    (b"$.a\\u0062", 3),
+    (b"$.\\u0062", 2),
     (b"$['\x1F']", 3),
     (b"$['\x80']", 3),
     (b"$['\xC3']", 4),
@@ -216,11 +235,29 @@ fn records_of_the_grammar() {
 }
 
 #[test]
-fn names_are_compared_as_written() {
+fn names_are_compared_by_their_code_points() {
     picks_out("$.lot", r#"{"lots":1,"lo":2,"LOT":3,"lot":4}"#, &[(31, 32)], 0);
-    picks_out("$.a", r#"{"\u0061":1,"a":2}"#, &[(16, 17)], 0);
+    picks_out("$.a", r#"{"\u0061":1,"a":2}"#, &[(10, 11), (16, 17)], 0);
     picks_out("$['u0061']", r#"{"\u0061":1}"#, &[], 0);
     picks_out("$['a']", r#"["a",{"a":1}]"#, &[], 1);
+    picks_out("$.lot", r#"{"l\u006ft":1}"#, &[(12, 13)], 0);
+    picks_out(r"$['\u006cot']", r#"{"lot":1}"#, &[(7, 8)], 0);
+    picks_out("$.größe", r#"{"gr\u00f6\u00dfe":1}"#, &[(19, 20)], 0);
+    for query in ["$['😀']", "$.😀", r"$['\ud83d\ude00']", r"$['\uD83D\uDE00']"] {
+        picks_out(query, r#"{"\uD83D\uDE00":1}"#, &[(16, 17)], 0);
+        picks_out(query, r#"{"\ud83d\ude00":1}"#, &[(16, 17)], 0);
+        picks_out(query, r#"{"😀":1}"#, &[(8, 9)], 0);
+        picks_out(query, r#"{"\ud83d\ud83d\ude00":1}"#, &[], 0);
+        picks_out(query, r#"{"\ud83d":1,"\ude00":2,"\ude00\ud83d":3}"#, &[], 0);
+    }
+    picks_out("$.*", r#"{"\ud83d\ud83d\ude00":1}"#, &[(22, 23)], 0);
+    picks_out("$..a", r#"{"\ud83d":{"\u0061":1}}"#, &[(20, 21)], 0);
+    // Each escape of two bytes, and a backslash before a `u` that is escaped itself.
+    picks_out(r"$['\b\t\n\f\r\/\\\'']", r#"{"\b\t\n\f\r\/\\'":1}"#, &[(19, 20)], 0);
+    picks_out(r#"$["\/\""]"#, r#"{"/\"":1}"#, &[(7, 8)], 0);
+    picks_out(r"$['\\u0061']", r#"{"\u0061":1,"\\u0061":2}"#, &[(22, 23)], 0);
+    // Nothing is folded or composed: é is not e and an accent.
+    picks_out("$.é", r#"{"e\u0301":1,"É":2,"\u00e9":3}"#, &[(29, 30)], 0);
 }
 
 #[test]

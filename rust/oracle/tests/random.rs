@@ -38,7 +38,7 @@ fn selected(step: &Step, record: &[u8], tree: &Tree, node: usize) -> Vec<usize> 
         Selector::Name(name) => {
             is_child(tree, child, node)
                 && tree.nodes[node].kind == Kind::Object
-                && tree.nodes[child].name_in(record) == Some(name)
+                && tree.nodes[child].name_points(record).as_ref() == Some(name)
         }
         Selector::Position(position) => {
             let children = (0..tree.nodes.len()).filter(|&other| is_child(tree, other, node));
@@ -278,7 +278,7 @@ fn the_large_records_are_taken() {
     for (name, generator) in large::ALL {
         let record = generator(large::LARGE / 10);
         let picks = picks(b"$..lot", &record).unwrap();
-        assert_eq!(picks.pairs.is_empty(), matches!(name, "feed" | "numbers"));
+        assert_eq!(picks.pairs.is_empty(), matches!(name, "feed" | "escaped" | "numbers"));
     }
     let deep = large::deep(large::LARGE / 10);
     assert_eq!(oracle::first_bracket_of_level(&deep, 513), None);

@@ -18,6 +18,7 @@ fn rows_that_pick_out() {
     picks_out("$[2]", "[1,[2,3],4]", &[(9, 10)], 1);
     picks_out("$..[0]", "[[7]]", &[(1, 4), (2, 3)], 0);
     picks_out("$[0]", r#"{"0":1}"#, &[], 0);
+    picks_out("$.lot", r#"{"l\u006ft":1}"#, &[(12, 13)], 0);
 }
 
 #[test]
@@ -33,6 +34,7 @@ fn rows_that_are_refused() {
         refused(b"", any, 2, 0);
         refused(b"$.a ", any, 2, 4);
         refused(b"$[00]", any, 2, 3);
+        refused(br"$['\uD800']", any, 2, 9);
     }
     refused(b"$", b"[1,]", 5, 3);
     refused(b"$", b"01", 5, 1);

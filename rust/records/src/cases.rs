@@ -2,10 +2,11 @@
 
 use crate::Random;
 
-/// Names as they stand in queries and, between quotes, in records.
+/// Names, however they are written.
 #[rustfmt::skip]
-const NAMES: [&str; 16] = [
+const NAMES: [&str; 24] = [
     "a", "b", "lot", "lots", "lo", "M", "_9", "é", "日本", "𝄞", "", "x y", "a'", "]", "{", "\u{7F}",
+    "a\"", "/", "\\", "\\n", "\n", "\u{8}\u{C}\r\t", "😀", "größe",
 ];
 
 /// Names that differ late or in length, around eight bytes.
@@ -27,12 +28,38 @@ const FAR_POSITIONS: [&str; 8] = [
 /// A name of no query.
 const NO_QUERY_NAME: &str = "private notes";
 
-/// Names that only records can hold: with escapes.
-const ESCAPED_NAMES: [&str; 7] =
-    [r"\u0061", r"lo\u0074", r"a\\", r#"\"a"#, r#"a\":{"#, r"\\\\", r"\uD800"];
+/// Names that only records can hold, as they are written: with half of a surrogate pair; and some
+/// with escapes that names of queries come near to.
+const RECORD_NAMES: [&str; 10] = [
+    r"\uD800",
+    r"\ud83d\ud83d\ude00",
+    r"\uDE00\uD83D",
+    r"\ud83d",
+    r"\uD834x",
+    r"a\\",
+    r#"\"a"#,
+    r#"a\":{"#,
+    r"\\\\",
+    r"\u00610",
+];
+
+/// Escapes that no quoted name may have, all or nearly all of them.
+const WRONG_ESCAPES: [&str; 10] = [
+    r"\U0061",
+    r"\uD800",
+    r"\uDC00",
+    r"\uD83D\n",
+    r"\uD83D\u0041",
+    r"\uD83D\uD83D",
+    r"\u006",
+    r"\x61",
+    r"\'",
+    r#"\""#,
+];
 
 /// Bytes that mean something in one of the grammars, or stand at an edge of a range.
-const TELLING: &[u8] = b"\"\"\\\\[]{}[]{},,::0019-+.eEtrufalsn \t\n\r$.*'_/b\0\x1F\x7F\x80\x8F\x90\
+const TELLING: &[u8] =
+    b"\"\"\\\\[]{}[]{},,::0019-+.eEtrufalsnD8dc \t\n\r$.*'_/b\0\x1F\x7F\x80\x8F\x90\
     \x9F\xA0\xBF\xC1\xC2\xDF\xE0\xEC\xED\xEF\xF0\xF3\xF4\xF5\xFF";
 
 /// What strings are made of: brackets and quotes that are none, escapes, names, code points.
@@ -52,6 +79,7 @@ pub fn names(random: &mut Random) -> Names {
         1..=3 => &NAMES[..2],
         4 => &NAMES[..3],
         5 => &NAMES[2..5],
+        6 if random.once_in(2) => &NAMES[16..],
         6 => &LONG_NAMES,
         _ => &NAMES,
     }
@@ -99,6 +127,39 @@ fn is_shorthand(name: &str) -> bool {
         && name.chars().all(|c| c.is_ascii_alphanumeric() || c == '_' || !c.is_ascii())
 }
 
+/// A name as it can stand between these quotes: mostly each character as itself where that is
+/// allowed, and now and then as an escape, by `\u` with digits of either case or by two bytes.
+fn spelled(random: &mut Random, name: &str, quote: char) -> String {
+    let with_escapes = random.once_in(4);
+    let mut out = String::new();
+    for character in name.chars() {
+        let has_to = character < ' ' || character == quote || character == '\\';
+        if !has_to && !(with_escapes && random.once_in(2)) {
+            out.push(character);
+            continue;
+        }
+        let short = match character {
+            '\u{8}' => 'b',
+            '\u{C}' => 'f',
+            '\n' => 'n',
+            '\r' => 'r',
+            '\t' => 't',
+            _ => character,
+        };
+        let has_short = has_to || character == '/';
+        if has_short && random.once_in(2) {
+            out.extend(['\\', short]);
+            continue;
+        }
+        for unit in character.encode_utf16(&mut [0; 2]) {
+            let digits = format!("{unit:04x}");
+            let digits = if random.once_in(2) { digits.to_uppercase() } else { digits };
+            out.push_str(&format!("\\u{digits}"));
+        }
+    }
+    out
+}
+
 /// One step of the grammar.
 fn step(random: &mut Random, names: Names, out: &mut Vec<u8>) {
     blanks(random, out);
@@ -118,10 +179,10 @@ fn step(random: &mut Random, names: Names, out: &mut Vec<u8>) {
     } else if positioned {
         position(random, out);
     } else {
-        let quote = if name.contains('\'') || random.once_in(2) { b'"' } else { b'\'' };
-        out.push(quote);
-        out.extend(name.as_bytes());
-        out.push(quote);
+        let quote = if random.once_in(2) { '"' } else { '\'' };
+        let written = spelled(random, name, quote);
+        let wrong = if random.once_in(60) { *random.one_of(&WRONG_ESCAPES) } else { "" };
+        out.extend(format!("{quote}{written}{wrong}{quote}").as_bytes());
     }
     blanks(random, out);
     out.push(b']');
@@ -137,7 +198,8 @@ fn position(random: &mut Random, out: &mut Vec<u8>) {
     }
 }
 
-/// A query of the grammar, or with a position too large for it, with this many steps.
+/// A query of the grammar, or with a position or an escape that it does not have, with this many
+/// steps.
 fn query_of(random: &mut Random, names: Names, steps: usize) -> Vec<u8> {
     let mut query = b"$".to_vec();
     for _ in 0..steps {
@@ -261,9 +323,10 @@ impl Writer<'_> {
     fn name_and_colon(&mut self) {
         self.blanks();
         let name = if self.random.once_in(12) {
-            *self.random.one_of(&ESCAPED_NAMES)
+            self.random.one_of(&RECORD_NAMES).to_string()
         } else {
-            *self.random.one_of(self.names)
+            let name = *self.random.one_of(self.names);
+            spelled(self.random, name, '"')
         };
         self.put(format!("\"{name}\"").as_bytes());
         self.blanks();

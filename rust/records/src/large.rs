@@ -1,4 +1,4 @@
-//! The four records that measurements are made on, each of about as many bytes as asked.
+//! The five records that measurements are made on, each of about as many bytes as asked.
 
 use crate::Random;
 
@@ -8,9 +8,9 @@ pub const LARGE: usize = 15_000_000;
 /// A generator of a record of about this many bytes.
 pub type Generator = fn(usize) -> Vec<u8>;
 
-/// The four records by name.
-pub const ALL: [(&str, Generator); 4] =
-    [("feed", feed), ("numbers", numbers), ("deep", deep), ("tiny", tiny)];
+/// The five records by name.
+pub const ALL: [(&str, Generator); 5] =
+    [("feed", feed), ("escaped", escaped), ("numbers", numbers), ("deep", deep), ("tiny", tiny)];
 
 /// Writes an array of items, without blanks, up to about `size` bytes.
 fn array(size: usize, mut item: impl FnMut(&mut String)) -> Vec<u8> {
@@ -121,6 +121,21 @@ pub fn feed(size: usize) -> Vec<u8> {
         message(&mut random, id, &mut out);
     }
     out.push_str("\n  ],\n  \"search_metadata\": { \"count\": 100, \"query\": \"オリーブ\" }\n}\n");
+    out.into_bytes()
+}
+
+/// The feed with the first letter of each name written as an escape.
+pub fn escaped(size: usize) -> Vec<u8> {
+    let feed = String::from_utf8(feed(size / 10 * 9)).expect("a feed is text");
+    let mut out = String::with_capacity(size + 65_536);
+    let mut rest = feed.as_str();
+    while let Some(at) = rest.find("\":") {
+        let start = rest[..at].rfind('"').expect("a name begins with a quote") + 1;
+        let letter = u32::from(rest.as_bytes()[start]);
+        out.push_str(&format!("{}\\u{letter:04x}{}\":", &rest[..start], &rest[start + 1..at]));
+        rest = &rest[at + 2..];
+    }
+    out.push_str(rest);
     out.into_bytes()
 }
 

@@ -1,4 +1,4 @@
-//! Writes the four records that measurements are made on: `records FOLDER [BYTES]`.
+//! Writes the five records that measurements are made on: `records FOLDER [BYTES]`.
 
 use records::large::{ALL, LARGE};
 use std::{env, fs, path::Path, process::ExitCode};

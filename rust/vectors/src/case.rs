@@ -32,12 +32,11 @@ pub struct Reason {
 
 /// The reasons, tried in this order. A vector counts under the first thing in it that this grammar
 /// does not have.
-pub const REASONS: [Reason; 5] = [
+pub const REASONS: [Reason; 4] = [
     Reason { words: "a filter", stands_at: |rest| rest.starts_with('?') },
     Reason { words: "a slice", stands_at: begins_slice },
     Reason { words: "a position counted from the end", stands_at: |rest| rest.starts_with('-') },
     Reason { words: "several selectors in one bracket", stands_at: |rest| rest.starts_with(',') },
-    Reason { words: "an escape in a quoted name", stands_at: |rest| rest.starts_with('\\') },
 ];
 
 fn begins_slice(rest: &str) -> bool {

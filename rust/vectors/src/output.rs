@@ -105,7 +105,6 @@ fn page(cases: &[Case]) -> String {
             format!("| {} | {} |\n", reason.words, of_sort(Sort::LeftOut(number)))
         })
         .collect();
-    let escapes = REASONS.iter().position(|reason| reason.words.contains("escape"));
     let figures = [
         ("ALL", cases.len()),
         ("LISTED", listed),
@@ -115,7 +114,7 @@ fn page(cases: &[Case]) -> String {
         ("ONCE", of_sort(Sort::ListedOnce)),
         ("LEFT_OUT", left_out),
         ("INVALID", of_sort(Sort::Invalid)),
-        ("ESCAPES", escapes.map_or(0, |number| of_sort(Sort::LeftOut(number)))),
+        ("ESCAPES", count(&|case| case.answer.ground == NO_GROUND && case.query.contains('\\'))),
         ("LINE_FEEDS", count(&|case| case.query.contains('\n'))),
     ];
     let mut page = include_str!("page.md").replace("{REASONS}\n", &reasons);

@@ -67,6 +67,9 @@ fn vectors_are_sorted() {
     assert_eq!(sort(repeated), "valid, a repeated node listed once");
     let position = r#""selector":"$[1]","document":[7,8],"result":[8],"result_paths":["$[1]"]"#;
     assert_eq!(sort(position), "valid as it stands");
+    let escape = r#""selector":"$['\\n']","document":{"\n":7,"n":8},"result":[7],
+        "result_paths":["$['\\n']"]"#;
+    assert_eq!(sort(escape), "valid as it stands");
     let left_out = |query: &str| {
         sort(&format!(r#""selector":"{query}","document":1,"result":[],"result_paths":[]"#))
     };
@@ -77,7 +80,6 @@ fn vectors_are_sorted() {
     assert_eq!(left_out("$[-1]"), "left out: a position counted from the end");
     assert_eq!(left_out("$[1,0]"), "left out: several selectors in one bracket");
     assert_eq!(left_out("$['a',1]"), "left out: several selectors in one bracket");
-    assert_eq!(left_out(r"$['\\n']"), "left out: an escape in a quoted name");
     assert_eq!(sort(r#""selector":"$.","invalid_selector":true"#), "invalid in both grammars");
 }
 

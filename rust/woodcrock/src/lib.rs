@@ -3,7 +3,7 @@
 //! A query (a part of [RFC 9535](https://www.rfc-editor.org/rfc/rfc9535)) and a record
 //! ([RFC 8259](https://www.rfc-editor.org/rfc/rfc8259) in UTF-8) are lent as bytes. [`list`] gives
 //! back where in the record the nodes stand that the query picks out, or a [`Refusal`] that says
-//! why not and where. Nothing is copied or decoded.
+//! why not and where. Nothing of the record is copied.
 //!
 //! ```
 //! let record = br#"{"a": {"lot": 1}, "lot": [2, 3]}"#;
@@ -17,14 +17,26 @@
 //! A query is `$` and then up to 16 steps: `.name`, `.*`, `['name']`, `["name"]`, `[*]` and `[2]` take
 //! from the node itself; with two dots, `..name`, `..*`, `..['name']`, `..[*]` and `..[2]`, a step takes
 //! from the node and from every node below it. Each node is listed once, and the first bytes rise.
-//! Names are compared byte for byte as written between their quotes, and members that repeat a name
-//! all match. A position is that of an element of an array, counted from 0, at most [`MAX_POSITION`];
+//! Members that repeat a name all match. A position is that of an element of an array, counted from 0, at most [`MAX_POSITION`];
 //! an object has none.
 //!
 //! ```
 //! let lots = br#"[["A-11", "A-12", "A-13"], ["B-3"]]"#;
 //! assert!(woodcrock::list(b"$[0][2]", lots)?.values().eq([&b"\"A-13\""[..]]));
 //! assert!(woodcrock::list(b"$..[0]", lots)?.ranges().eq([1..25, 2..8, 28..33]));
+//! # Ok::<(), woodcrock::Refusal>(())
+//! ```
+//!
+//! Names are equal if their code points are, however they are written. A quoted name takes the escapes
+//! of RFC 9535: `\b`, `\t`, `\n`, `\f`, `\r`, `\/`, `\\`, its own quote, and `\u` with four hexadecimal
+//! digits, where the halves of a surrogate pair stand together. A name in the record with half of a
+//! pair alone equals no name of a query.
+//!
+//! ```
+//! let record = br#"{"gr\u00f6\u00dfe": 7, "\ud83d\ude00": 8, "\ud83d": 9}"#;
+//! assert!(woodcrock::list("$.größe".as_bytes(), record)?.values().eq([b"7"]));
+//! assert!(woodcrock::list("$['😀']".as_bytes(), record)?.values().eq([b"8"]));
+//! assert!(woodcrock::list(br"$['\uD83D\uDE00']", record)?.values().eq([b"8"]));
 //! # Ok::<(), woodcrock::Refusal>(())
 //! ```
 //!

@@ -8,7 +8,7 @@ use Rattle.jumping.proofs.turn.Tie as tie
 past-requires : tie.Need-past-requires
 past-requires c κs =
     let at-if1 = c .before .before .before .before .before in
-    let pre = at-if1 .before .before .before .before .before .pre in
+    let pre = at-if1 .before .before .before .before .pre in
     (pre .1 .1 .0, (pre .1 .1 .1 .0 .0, pre .1 .1 .1 .0 .1, pre .1 .1 .1 .0 .2 (not-true _ (at-if1 .if1 .taken))))
 
 same-length : tie.Need-same-length
@@ -18,7 +18,7 @@ returns : tie.Need-returns
 returns c =
     let at-past = c .before .before in
     let at-if1 = at-past .before .before .before .before .before .before in
-    let start = at-if1 .before .before .before .before .before in
+    let start = at-if1 .before .before .before .before in
     let went = at-past .past .ensures in
     let passed = not-true _ (at-if1 .if1 .taken) in (
       record {
@@ -35,13 +35,13 @@ returns c =
 coming-requires : tie.Need-coming-requires
 coming-requires c κs =
     let at-if1 = c .before .before in
-    let pre = at-if1 .before .before .before .before .before .pre in
+    let pre = at-if1 .before .before .before .before .pre in
     (pre .1 .0, (pre .1 .1 .0 .1, (not-false _ (at-if1 .if1 .left), pre .1 .1 .1 .0 .0)))
 
 value-requires : tie.Need-value-requires
 value-requires c κs =
     let at-coming = c .before .before .before .before .before .before .before in
-    let pre = at-coming .before .before .before .before .before .before .before .before .pre in
+    let pre = at-coming .before .before .before .before .before .before .before .pre in
     (pre .0, ((pre .1 .1 .0 .0, at-coming .coming .ensures .within), ((pre .1 .1 .1 .0 .0, pre .1 .1 .1 .0 .1), pre .1 .1 .1 .1)))
 
 same-length-2 : tie.Need-same-length-2
@@ -52,7 +52,7 @@ returns-2 c =
     let at-value = c .before .before in
     let at-coming = at-value .before .before .before .before .before .before .before .before in
     let at-if1 = at-coming .before .before .before in
-    let start = at-if1 .before .before .before .before .before in
+    let start = at-if1 .before .before .before .before in
     let went = at-value .value .ensures .0 in (
       record {
         fewer =

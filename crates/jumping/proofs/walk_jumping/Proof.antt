@@ -12,12 +12,12 @@ use Rattle.jumping.proofs.walk_jumping.Statement.{statement}
 use Rattle.jumping.proofs.walk_jumping.Tie as tie
 
 abbrev Inv-loop : tie.InvT-loop
-Inv-loop query «record» list₀ classes kinds operands levels₀ held₀ waits₀ brackets₀ counts₀ block₀ a₀ list levels held waits brackets counts block a =
-    Running query kinds operands «record» (pile levels₀ held₀ waits₀ brackets₀ counts₀) list₀ a₀ (pile levels held waits brackets counts) list a
+Inv-loop names «record» list₀ classes kinds operands levels₀ held₀ waits₀ brackets₀ counts₀ block₀ a₀ list levels held waits brackets counts block a =
+    Running names kinds operands «record» (pile levels₀ held₀ waits₀ brackets₀ counts₀) list₀ a₀ (pile levels held waits brackets counts) list a
     × Kept «record» block
 
 abbrev μ-loop : tie.MeasureT-loop
-μ-loop query «record» list₀ classes kinds operands levels₀ held₀ waits₀ brackets₀ counts₀ block₀ a₀ list levels held waits brackets counts block a =
+μ-loop names «record» list₀ classes kinds operands levels₀ held₀ waits₀ brackets₀ counts₀ block₀ a₀ list levels held waits brackets counts block a =
     turnsLeft (length «record») (a .at) (a .item)
 
 classes-requires : tie.Need-classes-requires Inv-loop μ-loop
@@ -36,7 +36,7 @@ turn-requires : tie.Need-turn-requires Inv-loop μ-loop
 turn-requires c κs =
     let at-loop = c .before .before .before .before .before .before .before .before .before in
     let at-classes = at-loop .before .before .before .before .before in
-    let pre = at-classes .before .before .before .before .pre in
+    let pre = at-classes .before .before .before .pre in
     let still = at-loop .loop .inv .0 in
     (at-classes .classes .ensures, (pre .0, ((pre .1, still .inside), ((still .room, still .few, still .in-container), at-loop .loop .inv .1))))
 

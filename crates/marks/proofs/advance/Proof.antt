@@ -6,7 +6,7 @@ use Rattle.marks.proofs.advance.Statement.{statement}
 use Rattle.marks.proofs.advance.Tie as tie
 
 returns : tie.Need-returns
-returns c = λ q operands l t. advances-none q _ operands _ l (c .if1 .taken)
+returns c = λ names operands l t. advances-none names _ operands _ l (c .if1 .taken)
 
 sub-last : tie.Need-sub-last
 sub-last c = search needs

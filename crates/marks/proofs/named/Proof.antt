@@ -11,10 +11,11 @@ use Rattle.marks.proofs.named.Statement.{statement}
 use Rattle.marks.proofs.named.Tie as tie
 
 abbrev Inv-loop : tie.InvT-loop
-Inv-loop query operands marks «record» x y count hits₀ i₀ hits i = Upto (λ j. bit j marks && nameIs query operands (slice x y «record») j) count hits i
+Inv-loop names operands marks «record» x y count hits₀ i₀ hits i =
+    Upto (λ j. bit j marks && nameIs names operands (slice x y «record») j) count hits i
 
 abbrev μ-loop : tie.MeasureT-loop
-μ-loop query operands marks «record» x y count hits₀ i₀ hits i = count - i
+μ-loop names operands marks «record» x y count hits₀ i₀ hits i = count - i
 
 lowest-requires : tie.Need-lowest-requires Inv-loop μ-loop
 lowest-requires c κs = search needs
@@ -42,7 +43,7 @@ element-copy-out-has-name c = search needs
 
 has-name-requires : tie.Need-has-name-requires Inv-loop μ-loop
 has-name-requires c κs =
-    let pre = c .before .before .before .before .before .before .before .pre in
+    let pre = c .before .before .before .before .before .before .pre in
     let few = pre .0 .0 .few in
     (omega arith, (λ on. (pre .0 .0 .order _ (pre .0 .1 _ on), pre .0 .0 .within _ (pre .0 .1 _ on)), pre .1))
 

@@ -4,15 +4,15 @@ use Rattle.marks.proofs.taking_member.Statement.{statement}
 use Rattle.marks.proofs.taking_member.Tie as tie
 
 returns : tie.Need-returns
-returns c = member-every _ _ _ _ _ (c .if1 .taken)
+returns c = λ points is. member-every _ _ _ _ points (c .if1 .taken)
 
 named-requires : tie.Need-named-requires
 named-requires c κs =
-    let start = c .before .before .before .before .before in
+    let start = c .before .before .before .before in
     ((start .pre .0, live-kind (start .args .marks) (start .args .kinds .named)), start .pre .1)
 
 returns-2 : tie.Need-returns-2
-returns-2 c = member-named _ _ _ _ _ _ (c .named .ensures)
+returns-2 c = λ points is. member-named _ _ _ _ points _ _ is (c .named .ensures)
 
 pub taking-member-spec : {M : Type 1} → statement M
 taking-member-spec = tie.close (tie.spec returns named-requires returns-2)

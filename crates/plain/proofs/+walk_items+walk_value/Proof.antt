@@ -76,12 +76,12 @@ value-claims t = (
 )
 
 abbrev items-inv : walk-items-lts.InvT-loop
-items-inv classes query kinds operands «record» at left object node list₀ first i₀ index₀ sum₀ list i index sum =
+items-inv classes names kinds operands «record» at left object node list₀ first i₀ index₀ sum₀ list i index sum =
     (length list ≡ length list₀)
-    × AtItem query kinds operands «record» at left object (stateOf node) (tallyOf list₀ sum₀) i index (tallyOf list sum)
+    × AtItem names kinds operands «record» at left object (stateOf node) (tallyOf list₀ sum₀) i index (tallyOf list sum)
 
 abbrev items-measure : walk-items-lts.MeasureT-loop
-items-measure classes query kinds operands «record» at left object node list₀ first i₀ index₀ sum₀ list i index sum = length «record» - i
+items-measure classes names kinds operands «record» at left object node list₀ first i₀ index₀ sum₀ list i index sum = length «record» - i
 
 -- the items of a container, where the measure is t
 module _ (t : ℕ) where
@@ -115,7 +115,7 @@ module _ (t : ℕ) where
   items-walk-value-requires : walk-items-lts.Need-walk-value-requires (items-claims t) (items-at t) walk-items.Post items-inv items-measure
   items-walk-value-requires c κs =
       let at-loop = c .before .before .before in
-      let asked = at-loop .before .before .before .before .before .before .before .before .before .pre in
+      let asked = at-loop .before .before .before .before .before .before .before .before .pre in
       let bounds = asked .1 .1 .1 in
       let child = c .before .before .enter-child .ensures in
       (omega (arith, asked .0), (asked .1 .0, (asked .1 .1 .0, (bounds .0, child .within, omega (arith, bounds .2, child .one-more)))))
@@ -139,7 +139,7 @@ module _ (t : ℕ) where
   items-add-end-2 : walk-items-lts.Need-add-end-2 (items-claims t) (items-at t) walk-items.Post items-inv items-measure
   items-add-end-2 c =
       let at-loop = c .before .before .before .before .before .before .before .before .before .before in
-      let asked = at-loop .before .before .before .before .before .before .before .before .before .pre in
+      let asked = at-loop .before .before .before .before .before .before .before .before .pre in
       omega (arith, asked .1 .1 .1 .0, c .before .if3 .left)
 
   items-same-length-2 : walk-items-lts.Need-same-length-2 (items-claims t) (items-at t) walk-items.Post items-inv items-measure
@@ -156,7 +156,7 @@ module _ (t : ℕ) where
   items-add-index : walk-items-lts.Need-add-index (items-claims t) (items-at t) walk-items.Post items-inv items-measure
   items-add-index c =
       let at-loop = c .before .before .before .before .before .before .before .before .before .before .before in
-      let asked = at-loop .before .before .before .before .before .before .before .before .before .pre in
+      let asked = at-loop .before .before .before .before .before .before .before .before .pre in
       omega (arith, asked .1 .1 .1 .0, at-loop .loop .inv .1 .behind, at-loop .loop .inv .1 .within)
 
   items-loop-less : walk-items-lts.Need-loop-less (items-claims t) (items-at t) walk-items.Post items-inv items-measure
@@ -173,7 +173,7 @@ module _ (t : ℕ) where
 -- a value
 module _ (t : ℕ) where
   value-returns : walk-value-lts.Need-returns (value-claims t) (value-at t) walk-value.Post
-  value-returns c = value-past (c .before .before .before .before .pre .1 .1 .1 .1) (c .if1 .taken)
+  value-returns c = value-past (c .before .before .before .pre .1 .1 .1 .1) (c .if1 .taken)
 
   value-begin-requires : walk-value-lts.Need-begin-requires (value-claims t) (value-at t) walk-value.Post
   value-begin-requires c κs = search needs
@@ -206,7 +206,7 @@ module _ (t : ℕ) where
   value-returns-3 : walk-value-lts.Need-returns-3 (value-claims t) (value-at t) walk-value.Post
   value-returns-3 c =
       let classed = c .before .before in
-      let asked = classed .before .before .before .before .before .before .before .before .before .before .pre in
+      let asked = classed .before .before .before .before .before .before .before .before .before .pre in
       value-too-deep (asked .1 .1 .1 .1) (sym (classed .class .ensures) ∙ c .before .if2 .left) (c .if3 .taken)
 
   value-raise-requires : walk-value-lts.Need-raise-requires (value-claims t) (value-at t) walk-value.Post
@@ -222,7 +222,7 @@ module _ (t : ℕ) where
   value-walk-items-requires c κs =
       let some-left = c .before .before .if3 .left in
       let inside = c .before .before .before .before .before .before .before .before .before .before in
-      let asked = inside .before .before .before .before .pre in
+      let asked = inside .before .before .before .pre in
       let bounds = asked .1 .1 .1 in (
         omega (arith, asked .0, some-left),
         (asked .1 .0, (asked .1 .1 .0, (bounds .0, omega (arith, inside .if1 .left), omega (arith, bounds .2, some-left)))),
@@ -232,7 +232,7 @@ module _ (t : ℕ) where
   value-finish-requires-2 c κs =
       let walked = c .before .before .before in
       let inside = walked .before .before .before .before .before .before .before .before .before .before .before in
-      let asked = inside .before .before .before .before .pre in
+      let asked = inside .before .before .before .pre in
       omega (arith, asked .1 .1 .1 .0, walked .walk-items .ensures .within)
 
   value-same-length-3 : walk-value-lts.Need-same-length-3 (value-claims t) (value-at t) walk-value.Post

@@ -1,8 +1,7 @@
--- The item's value stands where the scanner says, and its state follows from its name's bytes or its position as its marks do. Assumes
--- nothing.
+-- The item's value stands where the scanner says, and its state follows from its name or its position as its marks do. Assumes nothing.
 use mathlib.Core.Path.{refl}
 use mathlib.Core.Logic.{⊎-elim}
-use Rattle.walk.specs.Labels.{of-object, of-array}
+use Rattle.walk.specs.Labels.{of-escaped, of-member, of-array}
 use Rattle.plain.proofs.Laws.{enters-child}
 use borrow.Author.Needs.{needs}
 use Rattle.plain.proofs.enter_child.Statement.{statement}
@@ -10,6 +9,13 @@ use Rattle.plain.proofs.enter_child.Tie as tie
 
 enter-item-requires : tie.Need-enter-item-requires
 enter-item-requires c κs = search needs
+
+taking-escaped-requires : tie.Need-taking-escaped-requires
+taking-escaped-requires c κs =
+    let at-item = c .before .before in
+    let fits = at-item .before .before .pre .0 in
+    let item = at-item .enter-item .ensures in
+    ((fits .few, λ i on. (fits .order i on, fits .within i on)), (item .name-order, item .name-within))
 
 taking-member-requires : tie.Need-taking-member-requires
 taking-member-requires c κs = search needs
@@ -28,8 +34,10 @@ returns c =
     let at-advance = c .before in
     let at-if1 = at-advance .before in
     enters-child (at-if1 .before .enter-item .ensures)
-    (at-advance .advance .ensures _ _ _
-    (⊎-elim (λ w. of-object _ _ (w .0 .taken) (w .2) (w .1 .ensures)) (λ w. of-array _ _ (w .0 .left) refl (w .2) (w .1 .ensures _))
+    (λ l labelled. at-advance .advance .ensures _ _ l
+    (⊎-elim (λ w. of-escaped _ _ (w .0 .taken) (w .3) (w .2 .ensures _ refl refl refl) l labelled)
+    (⊎-elim (λ w. of-member _ _ (w .0 .taken) (at-if1 .before .enter-item .ensures .bare (w .1 .left)) (w .3) (w .2 .ensures) l labelled)
+    (λ w. of-array _ _ (w .0 .left) refl (w .2) (w .1 .ensures _) l labelled))
     (at-if1 .if1 .came)))
     (c .framed .ensures)
 
@@ -38,6 +46,7 @@ enter-child-spec =
     tie.close
     (tie.spec
     enter-item-requires
+    taking-escaped-requires
     taking-member-requires
     taking-element-requires
     advance-requires

@@ -19,7 +19,7 @@ walk-value-requires c κs =
     let rooted = c .before .before .before in
     let blanks = rooted .before in
     let classed = blanks .before .before .before in
-    let pre = classed .before .before .before .before .pre in
+    let pre = classed .before .before .before .pre in
     (classed .classes .ensures, (pre .0, (pre .1, blanks .skip-blanks .ensures .within, omega (arith, rooted .root-state .ensures .no-frames))))
 
 same-length : tie.Need-same-length

@@ -1,20 +1,20 @@
--- `query_parser::read_query` meets its contract: the steps read so far stand before what is still to be read, and are held; the end
--- of the query, a dead byte or a seventeenth step decide. The measure is what is left of the query. Assumes nothing.
+-- `query_parser::read_query` meets its contract: the steps read so far stand before what is still to be read, and are held, with their names;
+-- the end of the query, a dead byte or a seventeenth step decide. The measure is what is left of the query. Assumes nothing.
 use Prim.Native.Nat.{_-_}
 use native.Mathlib.Omega.{arith}
 use borrow.Author.Needs.{needs}
 use lib.ListN.{length}
 use Rattle.encoding.specs.RowTable.{RowTable}
-use Rattle.query_parser.proofs.Answers.{long-answer, empty-answer, other-answer, SoFar, begin-so-far, so-far-more, so-far-refused}
-use Rattle.query_parser.proofs.Answers.{so-far-end, so-far-many, add-fits, step-taken}
+use Rattle.query_parser.proofs.Answers.{long-answer, empty-answer, other-answer, SoFar, begin-so-far, so-far-stands, so-far-room}
+use Rattle.query_parser.proofs.Answers.{so-far-more, so-far-refused, so-far-end, so-far-many, step-taken}
 use Rattle.query_parser.proofs.read_query.Statement.{statement}
 use Rattle.query_parser.proofs.read_query.Tie as tie
 
 abbrev Inv-loop : tie.InvT-loop
-Inv-loop query rows steps₀ at₀ steps at = SoFar query steps at × RowTable rows
+Inv-loop query names₀ rows steps₀ at₀ names steps at = SoFar query names steps at × RowTable rows
 
 abbrev μ-loop : tie.MeasureT-loop
-μ-loop query rows steps₀ at₀ steps at = length query - at
+μ-loop query names₀ rows steps₀ at₀ names steps at = length query - at
 
 refuse-requires : tie.Need-refuse-requires Inv-loop μ-loop
 refuse-requires c κs = search needs
@@ -35,8 +35,7 @@ refuse-requires-3 : tie.Need-refuse-requires-3 Inv-loop μ-loop
 refuse-requires-3 c κs = search needs
 
 returns-3 : tie.Need-returns-3 Inv-loop μ-loop
-returns-3 c = other-answer (omega arith) (c .before .before .before .if2 .left) (c .before .if3 .taken)
-    (c .refuse3 .ensures)
+returns-3 c = other-answer (omega arith) (c .before .before .before .if2 .left) (c .before .if3 .taken) (c .refuse3 .ensures)
 
 rows-requires : tie.Need-rows-requires Inv-loop μ-loop
 rows-requires c κs = search needs
@@ -45,11 +44,13 @@ no-steps-requires : tie.Need-no-steps-requires Inv-loop μ-loop
 no-steps-requires c κs = search needs
 
 loop-holds : tie.Need-loop-holds Inv-loop μ-loop
-loop-holds c = (
-  begin-so-far (c .before .before .before .before .before .if1 .left) (c .before .before .before .before .if2 .left)
-      (c .before .before .if3 .left) (c .no-steps .ensures),
-  c .before .rows .ensures,
-)
+loop-holds c =
+    let begins = c .before .before in
+    let some = begins .before .before in
+    let short = some .before in (
+      begin-so-far (short .if1 .left) (some .if2 .left) (begins .if3 .left) (c .no-steps .ensures),
+      c .before .rows .ensures,
+    )
 
 read-step-requires : tie.Need-read-step-requires Inv-loop μ-loop
 read-step-requires c κs = search needs
@@ -67,38 +68,56 @@ refuse-requires-4 : tie.Need-refuse-requires-4 Inv-loop μ-loop
 refuse-requires-4 c κs = search needs
 
 returns-4 : tie.Need-returns-4 Inv-loop μ-loop
-returns-4 c = so-far-refused (c .before .before .before .before .before .before .before .loop .inv .0)
-    (c .before .before .before .before .read-step .ensures) (c .before .before .before .match .keys2) (c .before .place-of .ensures)
+returns-4 c =
+    let refused = c .before .before .before in
+    let read = refused .before in
+    so-far-refused (read .before .before .before .loop .inv .0) (read .read-step .ensures) (refused .match .keys2) (c .before .place-of .ensures)
     (c .refuse4 .ensures)
 
 too-many-requires : tie.Need-too-many-requires Inv-loop μ-loop
-too-many-requires c κs = let t = step-taken (c .before .before .before .before .before .before .read-step .ensures)
-    (c .before .before .before .before .read .given .1) in
-    (t .within, c .before .before .before .before .before .before .before .before .before .loop .inv .1)
+too-many-requires c κs =
+    let found = c .before .before .before .before in
+    let read = found .before .before in
+    let at-loop = read .before .before .before in
+    let t = step-taken (read .read-step .ensures) (found .read .given .1) in
+    (t .within, at-loop .loop .inv .1)
 
 returns-5 : tie.Need-returns-5 Inv-loop μ-loop
 returns-5 c =
-    let s = c .before .before .before .before .before .before .before .before .before .before .loop .inv .0 in
-    let t = step-taken (c .before .before .before .before .before .before .before .read-step .ensures)
-    (c .before .before .before .before .before .read .given .1) in
-    so-far-many s t (omega (arith, s .held .fits .few)) (c .too-many .ensures)
+    let found = c .before .before .before .before .before in
+    let read = found .before .before in
+    let at-loop = read .before .before .before in
+    let t = step-taken (read .read-step .ensures) (found .read .given .1) in
+    so-far-many (at-loop .loop .inv .0) t (omega (arith, at-loop .loop .inv .0 .held .holds .fits .few)) (c .too-many .ensures)
+
+entry-of-requires : tie.Need-entry-of-requires Inv-loop μ-loop
+entry-of-requires c κs =
+    let found = c .before .before .before .before in
+    let read = found .before .before in
+    let at-loop = read .before .before .before in
+    let t = step-taken (read .read-step .ensures) (found .read .given .1) in
+    so-far-stands (at-loop .loop .inv .0) t
 
 add-requires : tie.Need-add-requires Inv-loop μ-loop
-add-requires c κs = let t = step-taken (c .before .before .before .before .before .read-step .ensures)
-    (c .before .before .before .read .given .1) in add-fits
-    (c .before .before .before .before .before .before .before .before .loop .inv .0) t (c .if4 .left)
+add-requires c κs =
+    let room = c .before .before in
+    let at-loop = room .before .before .before .before .before .before .before .before in
+    so-far-room (at-loop .loop .inv .0) (room .if4 .left)
 
 loop-less : tie.Need-loop-less Inv-loop μ-loop
-loop-less c = let t = step-taken (c .before .before .before .before .before .before .read-step .ensures)
-    (c .before .before .before .before .read .given .1) in omega (arith, t .on, t .within)
+loop-less c =
+    let found = c .before .before .before .before .before .before in
+    let read = found .before .before in
+    let t = step-taken (read .read-step .ensures) (found .read .given .1) in
+    omega (arith, t .on, t .within)
 
 loop-again : tie.Need-loop-again Inv-loop μ-loop
-loop-again c = let t = step-taken (c .before .before .before .before .before .before .read-step .ensures)
-    (c .before .before .before .before .read .given .1) in (
-      so-far-more (c .before .before .before .before .before .before .before .before .before .loop .inv .0) t
-          (c .add .ensures _ _ (c .before .before .before .before .before .before .before .before .before .loop .inv .0 .held) (t .bounded)),
-      c .before .before .before .before .before .before .before .before .before .loop .inv .1,
-    )
+loop-again c =
+    let found = c .before .before .before .before .before .before in
+    let read = found .before .before in
+    let at-loop = read .before .before .before in
+    let t = step-taken (read .read-step .ensures) (found .read .given .1) in
+    (so-far-more (at-loop .loop .inv .0) t (c .before .entry-of .ensures) (c .add .ensures), at-loop .loop .inv .1)
 
 returns-6 : tie.Need-returns-6 Inv-loop μ-loop
 returns-6 c = so-far-end (c .before .loop .inv .0) (c .loop-test .left)
@@ -127,6 +146,7 @@ read-query-spec =
     returns-4
     too-many-requires
     returns-5
+    entry-of-requires
     add-requires
     loop-less
     loop-again

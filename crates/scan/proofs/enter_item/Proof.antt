@@ -18,8 +18,8 @@ returns-2 c = enters-as _ true (not-false _ (c .before .if1 .left)) (enters-end 
 add-from : tie.Need-add-from
 add-from c = search needs
 
-string-end-requires : tie.Need-string-end-requires
-string-end-requires c κs = search needs
+name-end-requires : tie.Need-name-end-requires
+name-end-requires c κs = search needs
 
 skip-blanks-requires-2 : tie.Need-skip-blanks-requires-2
 skip-blanks-requires-2 c κs = search needs
@@ -29,7 +29,7 @@ returns-3 c =
     let quoted = c .before .before in
     let member = quoted .before .before in
     enters-as _ true (not-false _ (member .if1 .left))
-    (enters-no-colon _ _ _ (member .before .skip-blanks .ensures) _ (quoted .string-end .ensures) _ (c .before .skip-blanks2 .ensures)
+    (enters-no-colon _ _ _ (member .before .skip-blanks .ensures) _ _ (quoted .name-end .ensures) _ (c .before .skip-blanks2 .ensures)
     (c .if3 .taken))
 
 returns-4 : tie.Need-returns-4
@@ -37,7 +37,7 @@ returns-4 c =
     let quoted = c .before .before .before in
     let member = quoted .before .before in
     enters-as _ true (not-false _ (member .if1 .left))
-    (enters-no-name _ _ _ (member .before .skip-blanks .ensures) _ (quoted .string-end .ensures) _
+    (enters-no-name _ _ _ (member .before .skip-blanks .ensures) _ _ (quoted .name-end .ensures) _
     (c .before .before .skip-blanks2 .ensures) (c .if4 .taken))
 
 add-skip-blanks : tie.Need-add-skip-blanks
@@ -46,15 +46,15 @@ add-skip-blanks c = search needs
 skip-blanks-requires-3 : tie.Need-skip-blanks-requires-3
 skip-blanks-requires-3 c κs = search needs
 
-sub-t10 : tie.Need-sub-t10
-sub-t10 c = search needs
+sub-t11 : tie.Need-sub-t11
+sub-t11 c = search needs
 
 returns-5 : tie.Need-returns-5
 returns-5 c =
     let quoted = c .before .before .before .before in
     let member = quoted .before .before in
     enters-as _ true (not-false _ (member .if1 .left))
-    (enters-member _ _ _ (member .before .skip-blanks .ensures) _ (quoted .string-end .ensures) _
+    (enters-member _ _ _ (member .before .skip-blanks .ensures) _ _ (quoted .name-end .ensures) _
     (c .before .before .before .skip-blanks2 .ensures) (c .before .if4 .left) _ (c .skip-blanks3 .ensures))
 
 pub enter-item-spec : {M : Type 1} → statement M
@@ -65,11 +65,11 @@ enter-item-spec =
     returns
     returns-2
     add-from
-    string-end-requires
+    name-end-requires
     skip-blanks-requires-2
     returns-3
     returns-4
     add-skip-blanks
     skip-blanks-requires-3
-    sub-t10
+    sub-t11
     returns-5)

@@ -92,7 +92,7 @@ module _ (t : ℕ) where
       let sought = c .before .before in
       let entered = sought .before in
       let test = entered .before in
-      going-found _ _ _ _ _ _ _ (test .before .loop .inv) (test .loop-test .taken) _ _ _ (entered .enter-item .ensures) _ _
+      going-found _ _ _ _ _ _ _ (test .before .loop .inv) (test .loop-test .taken) _ _ _ _ (entered .enter-item .ensures) _ _
       (sought .seek-value .ensures) (c .if1 .taken)
 
   inside-next-item-requires : seek-inside-lts.Need-next-item-requires (inside-claims t) (inside-at t) seek-inside.Post inside-inv inside-measure
@@ -103,7 +103,7 @@ module _ (t : ℕ) where
       let sought = c .before .before .before in
       let entered = sought .before in
       let test = entered .before in
-      going-falls _ _ _ _ _ _ _ (test .before .loop .inv) (test .loop-test .taken) _ _ _ (entered .enter-item .ensures) _ _
+      going-falls _ _ _ _ _ _ _ (test .before .loop .inv) (test .loop-test .taken) _ _ _ _ (entered .enter-item .ensures) _ _
       (sought .seek-value .ensures) _ _ (c .next-item .ensures)
 
   inside-loop-again : seek-inside-lts.Need-loop-again (inside-claims t) (inside-at t) seek-inside.Post inside-inv inside-measure
@@ -111,7 +111,7 @@ module _ (t : ℕ) where
       let sought = c .before .before .before in
       let entered = sought .before in
       let test = entered .before in
-      going-on _ _ _ _ _ _ _ (test .before .loop .inv) (test .loop-test .taken) _ _ _ (entered .enter-item .ensures) _ _
+      going-on _ _ _ _ _ _ _ (test .before .loop .inv) (test .loop-test .taken) _ _ _ _ (entered .enter-item .ensures) _ _
       (sought .seek-value .ensures) (c .before .if1 .left) _ _ (c .next-item .ensures)
 
   inside-returns-2 : seek-inside-lts.Need-returns-2 (inside-claims t) (inside-at t) seek-inside.Post inside-inv inside-measure

@@ -1,8 +1,8 @@
--- `swar::stops` meets its contract: each of the three kinds has its own. Assumes nothing.
+-- `swar::stops` meets its contract: each of the four kinds has its own. Assumes nothing.
 use mathlib.Core.Path.{sym, subst}
 use mathlib.Core.Bool.{Bool}
 use Prim.Native.Nat.{ℕ}
-use Rattle.swar.specs.KindLaws.{kind-gap, kind-unquoted, kind-plain}
+use Rattle.swar.specs.KindLaws.{kind-gap, kind-unquoted, kind-bare, kind-plain}
 use Rattle.swar.specs.Stops.{Stops}
 use borrow.Author.Needs.{needs}
 use Rattle.swar.proofs.stops.Statement.{statement}
@@ -24,13 +24,23 @@ returns-2 c =
     subst (λ (kind : ℕ → Bool). Stops kind (c .before .before .before .args .x) (c .unquoted-stops .result))
     (sym (kind-unquoted (c .before .if2 .taken))) (c .unquoted-stops .ensures)
 
-plain-stops-requires : tie.Need-plain-stops-requires
-plain-stops-requires c κs = search needs
+bare-stops-requires : tie.Need-bare-stops-requires
+bare-stops-requires c κs = search needs
 
 returns-3 : tie.Need-returns-3
 returns-3 c =
-    subst (λ (kind : ℕ → Bool). Stops kind (c .before .before .before .args .x) (c .plain-stops .result))
-    (sym (kind-plain (c .before .before .if1 .left) (c .before .if2 .left))) (c .plain-stops .ensures)
+    subst (λ (kind : ℕ → Bool). Stops kind (c .before .before .before .before .args .x) (c .bare-stops .result))
+    (sym (kind-bare (c .before .if3 .taken))) (c .bare-stops .ensures)
+
+plain-stops-requires : tie.Need-plain-stops-requires
+plain-stops-requires c κs = search needs
+
+returns-4 : tie.Need-returns-4
+returns-4 c =
+    let at-if3 = c .before in
+    let at-if2 = at-if3 .before in
+    subst (λ (kind : ℕ → Bool). Stops kind (at-if2 .before .before .args .x) (c .plain-stops .result))
+    (sym (kind-plain (at-if2 .before .if1 .left) (at-if2 .if2 .left) (at-if3 .if3 .left))) (c .plain-stops .ensures)
 
 pub stops-spec : {M : Type 1} → statement M
 stops-spec =
@@ -40,5 +50,7 @@ stops-spec =
     returns
     unquoted-stops-requires
     returns-2
+    bare-stops-requires
+    returns-3
     plain-stops-requires
-    returns-3)
+    returns-4)

@@ -4,13 +4,13 @@
 use borrow.Author.Needs.{needs}
 use Rattle.bits.specs.Truth.{allBelow}
 use Rattle.swar.specs.Kinds.{unquoted}
-use Rattle.swar.specs.Lanes.{Lane, byte, same, both, and, xor, minus}
+use Rattle.swar.specs.Lanes.{Lane, byte, same, both, and, xor, highAt}
 use Rattle.swar.specs.Stops.{marksKind, by-lane}
 use Rattle.swar.proofs.unquoted_stops.Statement.{statement}
 use Rattle.swar.proofs.unquoted_stops.Tie as tie
 
 abbrev lane : Lane
-lane = both and (both and (both minus (both xor byte (same 0x22)) (same 0x01)) (both xor byte (same 0xFF))) (same 0x80)
+lane = both and (both and (highAt 0x22) (both xor byte (same 0xFF))) (same 0x80)
 
 minus-requires : tie.Need-minus-requires
 minus-requires c κs = search needs

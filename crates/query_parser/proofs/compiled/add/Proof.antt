@@ -1,12 +1,9 @@
 -- `query_parser::compiled::add` meets its contract: one step more changes one bit of each mask and one operand, and what was held
 -- stays. Assumes nothing.
 use borrow.Author.Needs.{needs}
-use Rattle.query_parser.proofs.Masks.{holds-more}
+use Rattle.query_parser.proofs.Masks.{held-more}
 use Rattle.query_parser.proofs.compiled.add.Statement.{statement}
 use Rattle.query_parser.proofs.compiled.add.Tie as tie
-
-entry-of-requires : tie.Need-entry-of-requires
-entry-of-requires c κs = search needs
 
 mul-operands : tie.Need-mul-operands
 mul-operands c = search needs
@@ -14,8 +11,8 @@ mul-operands c = search needs
 array-write-operands : tie.Need-array-write-operands
 array-write-operands c = search needs
 
-add-t8 : tie.Need-add-t8
-add-t8 c = search needs
+add-t7 : tie.Need-add-t7
+add-t7 c = search needs
 
 with-bit-requires : tie.Need-with-bit-requires
 with-bit-requires c κs = search needs
@@ -31,18 +28,19 @@ with-bit-requires-4 c κs = search needs
 
 returns : tie.Need-returns
 returns c =
-    let made = c .before .before .before .before .before .before in
-    λ q x w b. holds-more q x _ _ _ _ _ _ _ _ (made .before .pre .0) w (made .entry-of .ensures q b)
-    (c .before .before .before .with-bit .ensures) (c .before .before .with-bit2 .ensures) (c .before .with-bit3 .ensures) (c .with-bit4 .ensures)
+    record {
+      held =
+          held-more _ _ _ _ _ _ _ _ _ _ _ (c .before .before .before .with-bit .ensures) (c .before .before .with-bit2 .ensures)
+          (c .before .with-bit3 .ensures) (c .with-bit4 .ensures) (c .before .before .before .before .before .before .pre);
+    }
 
 pub add-spec : {M : Type 1} → statement M
 add-spec =
     tie.close
     (tie.spec
-    entry-of-requires
     mul-operands
     array-write-operands
-    add-t8
+    add-t7
     with-bit-requires
     with-bit-requires-2
     with-bit-requires-3

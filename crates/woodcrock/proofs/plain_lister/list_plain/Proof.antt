@@ -16,14 +16,14 @@ returns c = listed-none (c .before .before .before .admit .ensures) (λ e. omega
 
 walk-plain-requires : tie.Need-walk-plain-requires
 walk-plain-requires c κs =
-    let taken = c .before in
+    let taken = c .before .before in
     let admitted = taken .before .before .admit .ensures in
     (fits admitted (taken .if1 .left), record-short admitted (taken .if1 .left))
 
 conclude-requires : tie.Need-conclude-requires
 conclude-requires c κs =
     let walked = c .before .before in
-    let taken = walked .before .before in
+    let taken = walked .before .before .before in
     countable (taken .before .before .admit .ensures) (taken .if1 .left) (walked .walk-plain .ensures)
 
 same-length : tie.Need-same-length
@@ -32,7 +32,7 @@ same-length c = search needs
 returns-2 : tie.Need-returns-2
 returns-2 c =
     let walked = c .before .before .before in
-    let taken = walked .before .before in
+    let taken = walked .before .before .before in
     listed-all (taken .before .before .admit .ensures) (taken .if1 .left) (walked .walk-plain .ensures) (c .conclude .ensures)
 
 pub list-plain-spec : {M : Type 1} → statement M

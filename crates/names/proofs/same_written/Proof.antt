@@ -2,16 +2,16 @@
 use mathlib.Core.Path.{refl}
 use Prim.Native.Nat.{_-_}
 use native.Mathlib.Omega.{arith}
-use Rattle.marks.proofs.Names.{Agree, differs, agree-on, agree-no, agree-all}
+use Rattle.names.proofs.Agree.{Agree, differs, agree-on, agree-no, agree-all}
 use borrow.Author.Needs.{needs}
-use Rattle.marks.proofs.same_name.Statement.{statement}
-use Rattle.marks.proofs.same_name.Tie as tie
+use Rattle.names.proofs.same_written.Statement.{statement}
+use Rattle.names.proofs.same_written.Tie as tie
 
 abbrev Inv-loop : tie.InvT-loop
-Inv-loop query from to «record» x y i₀ j₀ i j = Agree query from to «record» x y i j
+Inv-loop names from to «record» x y i₀ j₀ i j = Agree names from to «record» x y i j
 
 abbrev μ-loop : tie.MeasureT-loop
-μ-loop query from to «record» x y i₀ j₀ i j = to - i
+μ-loop names from to «record» x y i₀ j₀ i j = to - i
 
 sub-if1 : tie.Need-sub-if1 Inv-loop μ-loop
 sub-if1 c = search needs
@@ -21,23 +21,25 @@ sub-if1-2 c = search needs
 
 returns : tie.Need-returns Inv-loop μ-loop
 returns c =
-    let a = c .before .args in
-    differs _ (a .from) (a .to) _ (a .x) (a .y) (c .before .pre .0 .1) (c .before .pre .1 .1) (λ e. omega (arith, c .if1 .taken))
+    let at = c .before .before in
+    let a = at .args in
+    differs _ (a .from) (a .to) _ (a .x) (a .y) (omega (arith, c .before .all .given .0)) (at .pre .1 .1) (λ e. omega (arith, c .if1 .taken))
 
 loop-holds : tie.Need-loop-holds Inv-loop μ-loop
 loop-holds c = record { left = omega arith; right = omega arith; equal = c .if1 .left; same = refl }
 
+element-copy-out-if2 : tie.Need-element-copy-out-if2 Inv-loop μ-loop
+element-copy-out-if2 c = search needs
+
 shared-slice-read-if2 : tie.Need-shared-slice-read-if2 Inv-loop μ-loop
 shared-slice-read-if2 c = search needs
-
-shared-slice-read-if2-2 : tie.Need-shared-slice-read-if2-2 Inv-loop μ-loop
-shared-slice-read-if2-2 c = search needs
 
 returns-2 : tie.Need-returns-2 Inv-loop μ-loop
 returns-2 c =
     let at-loop = c .before .before .before .before in
-    let pre = at-loop .before .before .pre in
-    agree-no (pre .0 .1) (pre .1 .1) (at-loop .loop .inv) (c .before .before .before .loop-test .taken) (c .if2 .taken)
+    let at-all = at-loop .before .before in
+    let pre = at-all .before .pre in
+    agree-no (omega (arith, at-all .all .given .0)) (pre .1 .1) (at-loop .loop .inv) (c .before .before .before .loop-test .taken) (c .if2 .taken)
 
 add-i : tie.Need-add-i Inv-loop μ-loop
 add-i c = search needs
@@ -51,17 +53,19 @@ loop-less c = search needs
 loop-again : tie.Need-loop-again Inv-loop μ-loop
 loop-again c =
     let at-loop = c .before .before .before .before in
-    let pre = at-loop .before .before .pre in
-    agree-on (pre .0 .1) (pre .1 .1) (at-loop .loop .inv) (c .before .before .before .loop-test .taken) (c .if2 .left)
+    let at-all = at-loop .before .before in
+    let pre = at-all .before .pre in
+    agree-on (omega (arith, at-all .all .given .0)) (pre .1 .1) (at-loop .loop .inv) (c .before .before .before .loop-test .taken) (c .if2 .left)
 
 returns-3 : tie.Need-returns-3 Inv-loop μ-loop
 returns-3 c =
     let at-loop = c .before in
-    let pre = at-loop .before .before .pre in
-    agree-all (pre .0 .1) (pre .1 .1) (at-loop .loop .inv) (c .loop-test .left)
+    let at-all = at-loop .before .before in
+    let pre = at-all .before .pre in
+    agree-all (omega (arith, at-all .all .given .0)) (pre .1 .1) (at-loop .loop .inv) (c .loop-test .left)
 
-pub same-name-spec : {M : Type 1} → statement M
-same-name-spec =
+pub same-written-spec : {M : Type 1} → statement M
+same-written-spec =
     tie.close
     (tie.spec
     Inv-loop
@@ -70,8 +74,8 @@ same-name-spec =
     sub-if1-2
     returns
     loop-holds
+    element-copy-out-if2
     shared-slice-read-if2
-    shared-slice-read-if2-2
     returns-2
     add-i
     add-j

@@ -1,0 +1,2 @@
+pub mod DecodedLaws
+pub mod Escapes

@@ -1,0 +1,4 @@
+pub mod Agree
+pub mod Compare
+pub mod Left
+pub mod Write
