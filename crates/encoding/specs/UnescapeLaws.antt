@@ -1,9 +1,9 @@
 -- Laws of a name's decoded bytes: a byte that is no backslash, and each of the four ways of an escape. Assumes nothing.
 use mathlib.Core.Path.{_≡_, refl, sym, ap, _∙_}
 use mathlib.Core.List.{List, [], _∷_, _++_}
-use mathlib.Core.Bool.{Bool, true, false, _&&_, and-false}
+use mathlib.Core.Bool.{Bool, true, false, and-false}
 use mathlib.Core.Logic.{_↔_}
-use Prim.Native.Nat.{ℕ, zero, suc, _+_, _-_, _*_, _<_, _≤_}
+use Prim.Native.Nat.{ℕ, zero, suc, _+_, _-_, _<_, _≤_}
 use native.Mathlib.Omega.{arith}
 use lib.Dec.{eqb, ltb}
 use lib.ListN.{length, getD, drop, length-drop}
@@ -11,8 +11,8 @@ use borrow.Author.Tests.{ne-eqb, ltb-true, lt-ltb, le-ltb}
 use Rattle.encoding.specs.Bytes.{In}
 use Rattle.encoding.specs.BytesLaws.{from-low, to-high}
 use Rattle.encoding.specs.Hex.{Hex, digit, upper, lower, hexByte, hexDigit, fourDigits, hexNumber}
-use Rattle.encoding.specs.Points.{ifElse, pointOf, isHigh, isLow, joined, utf8, pointsIn, Utf8Of}
-use Rattle.encoding.specs.PointsLaws.{utf8-1, wide-written, points-of, utf8-canonical}
+use Rattle.encoding.specs.Points.{ifElse, pointOf, isHigh, isLow, joined, utf8, Utf8Of}
+use Rattle.encoding.specs.PointsLaws.{utf8-1, wide-written, Scalar, small-scalar, wide-scalar, points-of, utf8-canonical}
 use Rattle.encoding.specs.Unescape.{hexValue, unitAt, lowAt, pairAt, pointAt, sizeAt, shortPoint, unescapedIn, unescaped, spelt, Spells}
 use Rattle.encoding.specs.Unescape.{NoBackslash, none, more}
 use Rattle.encoding.specs.Utf8.{Wide, putWide, c2-df, e0, e1-ec, ed, ee-ef, f0, f1-f3, f4}
@@ -91,7 +91,7 @@ unescaped-escape s =
     ap (utf8 (pointAt (0x5C ∷ s))) (enough (length s) (length t) t (shorter (length s) 0x5C s (omega arith)) (omega arith))
 
 -- bytes without a backslash stand for themselves, with what follows them decoded
-pub unescaped-before : {s : List ℕ} (u : List ℕ) → NoBackslash s → unescaped (s ++ u) ≡ s ++ unescaped u
+unescaped-before : {s : List ℕ} (u : List ℕ) → NoBackslash s → unescaped (s ++ u) ≡ s ++ unescaped u
 unescaped-before u none = refl
 unescaped-before u (more {b} {s} f h) = unescaped-plain b (s ++ u) f ∙ ap (λ (l : List ℕ). b ∷ l) (unescaped-before u h)
 
@@ -175,16 +175,27 @@ hex-range (digit d) = omega (arith, to-high d)
 hex-range (upper d) = omega (arith, to-high d)
 hex-range (lower d) = omega (arith, to-high d)
 
--- a code point that stands as itself
+-- what is put before s, decoded, is the code point n, which is no half
+pub record Character (put : List ℕ → List ℕ) (n : ℕ) : Type 0 where
+  pub scalar : Scalar n
+  pub decodes : (s : List ℕ) → unescaped (put s) ≡ utf8 n (unescaped s)
 
-pub narrow-decoded : (b : ℕ) (s : List ℕ) → b < 0x80 → (b ≡ 0x5C → ⊥) → unescaped (b ∷ s) ≡ utf8 b (unescaped s)
-narrow-decoded b s h f = unescaped-plain b s f ∙ sym (utf8-1 b (unescaped s) h)
+-- as itself: a byte below 80
+pub narrow-character : (b : ℕ) → b < 0x80 → (b ≡ 0x5C → ⊥) → Character (λ s. b ∷ s) b
+narrow-character b h f =
+    record { scalar = small-scalar b h; decodes = λ s. unescaped-plain b s f ∙ sym (utf8-1 b (unescaped s) h) }
 
--- a byte from 80 on is no backslash
+-- by a backslash and one byte
+pub short-character : (b n : ℕ) → (b ≡ 0x75 → ⊥) → shortPoint b ≡ n → n < 0x80 → Character (λ s. 0x5C ∷ b ∷ s) n
+short-character b n f e h =
+    record { scalar = small-scalar n h; decodes = λ s. escape-short b s f ∙ ap (λ (m : ℕ). utf8 m (unescaped s)) e }
+
+-- as itself: a code point from 80 on, none of whose bytes is a backslash
+
 tail : {lo hi : ℕ} {s : List ℕ} (x : In lo hi) → 0x80 ≤ lo → NoBackslash s → NoBackslash (x .byte ∷ s)
 tail x l h = let f : x .byte ≡ 0x5C → ⊥ = λ e. omega (arith, from-low x) in more f h
 
-pub wide-none : (p : Wide) → NoBackslash (putWide p [])
+wide-none : (p : Wide) → NoBackslash (putWide p [])
 unfolding putWide
 wide-none (c2-df x y) = tail x (omega arith) (tail y (omega arith) none)
 wide-none (e0 x y z) = tail x (omega arith) (tail y (omega arith) (tail z (omega arith) none))
@@ -195,9 +206,15 @@ wide-none (f0 x y z w) = tail x (omega arith) (tail y (omega arith) (tail z (ome
 wide-none (f1-f3 x y z w) = tail x (omega arith) (tail y (omega arith) (tail z (omega arith) (tail w (omega arith) none)))
 wide-none (f4 x y z w) = tail x (omega arith) (tail y (omega arith) (tail z (omega arith) (tail w (omega arith) none)))
 
-pub wide-decoded : (p : Wide) (s : List ℕ) → unescaped (putWide p s) ≡ utf8 (pointOf p) (unescaped s)
-wide-decoded p s =
-    ap unescaped (append-wide p [] s) ∙ unescaped-before s (wide-none p) ∙ sym (append-wide p [] (unescaped s)) ∙ wide-written p (unescaped s)
+pub wide-character : (p : Wide) → Character (putWide p) (pointOf p)
+wide-character p = record { scalar = wide-scalar p; decodes = decoded }
+  where
+    decoded : (s : List ℕ) → unescaped (putWide p s) ≡ utf8 (pointOf p) (unescaped s)
+    decoded s =
+        ap unescaped (append-wide p [] s)
+        ∙ unescaped-before s (wide-none p)
+        ∙ sym (append-wide p [] (unescaped s))
+        ∙ wide-written p (unescaped s)
 
 -- and no low half begins with it
 pub wide-no-low : (p : Wide) (s : List ℕ) → lowAt (putWide p s) ≡ false

@@ -2,106 +2,69 @@
 use mathlib.Core.Path.{_≡_, refl, sym, ap, ap₂, _∙_}
 use mathlib.Core.List.{List, [], _∷_}
 use mathlib.Core.Bool.{Bool, true, false, _&&_, and-false, and-eq-true-iff}
-use Prim.Native.Nat.{ℕ, _+_, _-_, _*_, _<_, _≤_}
+use Prim.Native.Nat.{ℕ, _<_}
 use native.Mathlib.Omega.{arith}
 use lib.Dec.{leb}
 use borrow.Author.Tests.{leb-true, ne-eqb}
 use Rattle.encoding.specs.Bytes.{In}
 use Rattle.encoding.specs.BytesLaws.{from-low, to-high}
 use Rattle.encoding.specs.Hex.{Hex, hexByte, hexNumber}
-use Rattle.encoding.specs.Points.{ifElse, pointOf, isHigh, isLow, joined, utf8, utf8s, Ranged, none, more}
-use Rattle.encoding.specs.PointsLaws.{Scalar, small-scalar, wide-scalar, scalar-high, scalar-low}
+use Rattle.encoding.specs.Points.{ifElse, isHigh, isLow, joined, utf8, utf8s, Ranged, none, more}
+use Rattle.encoding.specs.PointsLaws.{scalar-high, scalar-low}
 use Rattle.encoding.specs.Unescape.{shortPoint, unitAt, lowAt, pairAt, unescaped, Spells}
-use Rattle.encoding.specs.UnescapeLaws.{unescaped-nil, escape-short, escape-alone, escape-pair, not-high, not-low}
-use Rattle.encoding.specs.UnescapeLaws.{hex-number, hex-range, narrow-decoded, wide-decoded, wide-no-low}
-use Rattle.encoding.specs.Utf8.{Wide, putWide}
+use Rattle.encoding.specs.UnescapeLaws.{unescaped-nil, escape-alone, escape-pair, not-high, not-low, hex-number, hex-range}
+use Rattle.encoding.specs.UnescapeLaws.{Character, narrow-character, short-character, wide-character, wide-no-low}
+use Rattle.encoding.specs.Utf8.{Wide}
 use Rattle.json.specs.Grammar as G
 use Rattle.json.specs.Grammar.{Escape, escapeByte, Char, putChar, putChars}
 use Rattle.json.specs.Points.{escapePoint, unitOf, unitsOf, join, pointsOf}
 
 -- a character other than `\u`: it is a code point, is decoded to it, and begins no low half
-record Plain (c : Char) : Type 0 where
-  scalar : Scalar (unitOf c)
-  decoded : (s : List ℕ) → unescaped (putChar c s) ≡ utf8 (unitOf c) (unescaped s)
-  no-low : (s : List ℕ) → lowAt (putChar c s) ≡ false
+record Plain (put : List ℕ → List ℕ) (n : ℕ) : Type 0 where
+  character : Character put n
+  no-low : (s : List ℕ) → lowAt (put s) ≡ false
 
-no-backslash : (b : ℕ) (s : List ℕ) → (b ≡ 0x5C → ⊥) → lowAt (b ∷ s) ≡ false
+narrow : (b : ℕ) → b < 0x80 → (b ≡ 0x5C → ⊥) → Plain (λ s. b ∷ s) b
 unfolding lowAt
-no-backslash b s f = rw (ne-eqb b 0x5C f)
+narrow b h f = record { character = narrow-character b h f; no-low = λ s. rw (ne-eqb b 0x5C f) }
 
-low-plain : (x : In 0x20 0x21) → Plain (G.low x)
-unfolding unitOf putChar
-low-plain x =
-    let h : x .byte < 0x80 = omega (arith, to-high x) in
-    let f : x .byte ≡ 0x5C → ⊥ = λ e. omega (arith, to-high x) in
-    record {
-      scalar = small-scalar (x .byte) h;
-      decoded = λ s. narrow-decoded (x .byte) s h f;
-      no-low = λ s. no-backslash (x .byte) s f;
-    }
+short : (b n : ℕ) → (b ≡ 0x75 → ⊥) → shortPoint b ≡ n → n < 0x80 → Plain (λ s. 0x5C ∷ b ∷ s) n
+unfolding lowAt
+short b n f e h = record { character = short-character b n f e h; no-low = λ s. rw (ne-eqb b 0x75 f) }
 
-mid-plain : (x : In 0x23 0x5B) → Plain (G.mid x)
-unfolding unitOf putChar
-mid-plain x =
-    let h : x .byte < 0x80 = omega (arith, to-high x) in
-    let f : x .byte ≡ 0x5C → ⊥ = λ e. omega (arith, to-high x) in
-    record {
-      scalar = small-scalar (x .byte) h;
-      decoded = λ s. narrow-decoded (x .byte) s h f;
-      no-low = λ s. no-backslash (x .byte) s f;
-    }
-
-high-plain : (x : In 0x5D 0x7F) → Plain (G.high x)
-unfolding unitOf putChar
-high-plain x =
-    let h : x .byte < 0x80 = omega (arith, to-high x) in
-    let f : x .byte ≡ 0x5C → ⊥ = λ e. omega (arith, from-low x) in
-    record {
-      scalar = small-scalar (x .byte) h;
-      decoded = λ s. narrow-decoded (x .byte) s h f;
-      no-low = λ s. no-backslash (x .byte) s f;
-    }
-
-wide-plain : (p : Wide) → Plain (G.wide p)
-unfolding unitOf putChar
-wide-plain p = record { scalar = wide-scalar p; decoded = wide-decoded p; no-low = wide-no-low p }
-
-short-decoded : (e : Escape) (s : List ℕ) → unescaped (0x5C ∷ escapeByte e ∷ s) ≡ utf8 (escapePoint e) (unescaped s)
+escape-plain : (e : Escape) → Plain (λ s. 0x5C ∷ escapeByte e ∷ s) (escapePoint e)
 unfolding shortPoint
-short-decoded G.quote s = escape-short 0x22 s (λ e. omega arith)
-short-decoded G.backslash s = escape-short 0x5C s (λ e. omega arith)
-short-decoded G.slash s = escape-short 0x2F s (λ e. omega arith)
-short-decoded G.backspace s = escape-short 0x62 s (λ e. omega arith)
-short-decoded G.form s = escape-short 0x66 s (λ e. omega arith)
-short-decoded G.line s = escape-short 0x6E s (λ e. omega arith)
-short-decoded G.carriage s = escape-short 0x72 s (λ e. omega arith)
-short-decoded G.tabulator s = escape-short 0x74 s (λ e. omega arith)
+escape-plain G.quote = short 0x22 0x22 (λ e. omega arith) refl (omega arith)
+escape-plain G.backslash = short 0x5C 0x5C (λ e. omega arith) refl (omega arith)
+escape-plain G.slash = short 0x2F 0x2F (λ e. omega arith) refl (omega arith)
+escape-plain G.backspace = short 0x62 0x08 (λ e. omega arith) refl (omega arith)
+escape-plain G.form = short 0x66 0x0C (λ e. omega arith) refl (omega arith)
+escape-plain G.line = short 0x6E 0x0A (λ e. omega arith) refl (omega arith)
+escape-plain G.carriage = short 0x72 0x0D (λ e. omega arith) refl (omega arith)
+escape-plain G.tabulator = short 0x74 0x09 (λ e. omega arith) refl (omega arith)
 
-short-small : (e : Escape) → escapePoint e < 0x80
-short-small G.quote = omega arith
-short-small G.backslash = omega arith
-short-small G.slash = omega arith
-short-small G.backspace = omega arith
-short-small G.form = omega arith
-short-small G.line = omega arith
-short-small G.carriage = omega arith
-short-small G.tabulator = omega arith
+abbrev IsPlain : Char → Type 0
+IsPlain c = Plain (putChar c) (unitOf c)
 
-short-no-low : (e : Escape) (s : List ℕ) → lowAt (0x5C ∷ escapeByte e ∷ s) ≡ false
-unfolding lowAt
-short-no-low G.quote s = refl
-short-no-low G.backslash s = refl
-short-no-low G.slash s = refl
-short-no-low G.backspace s = refl
-short-no-low G.form s = refl
-short-no-low G.line s = refl
-short-no-low G.carriage s = refl
-short-no-low G.tabulator s = refl
-
-escaped-plain : (e : Escape) → Plain (G.escaped e)
+low-plain : (x : In 0x20 0x21) → IsPlain (G.low x)
 unfolding unitOf putChar
-escaped-plain e =
-    record { scalar = small-scalar (escapePoint e) (short-small e); decoded = short-decoded e; no-low = short-no-low e }
+low-plain x = narrow (x .byte) (omega (arith, to-high x)) (λ e. omega (arith, to-high x))
+
+mid-plain : (x : In 0x23 0x5B) → IsPlain (G.mid x)
+unfolding unitOf putChar
+mid-plain x = narrow (x .byte) (omega (arith, to-high x)) (λ e. omega (arith, to-high x))
+
+high-plain : (x : In 0x5D 0x7F) → IsPlain (G.high x)
+unfolding unitOf putChar
+high-plain x = narrow (x .byte) (omega (arith, to-high x)) (λ e. omega (arith, from-low x))
+
+wide-plain : (p : Wide) → IsPlain (G.wide p)
+unfolding unitOf putChar
+wide-plain p = record { character = wide-character p; no-low = wide-no-low p }
+
+escaped-plain : (e : Escape) → IsPlain (G.escaped e)
+unfolding unitOf putChar
+escaped-plain e = escape-plain e
 
 -- a number that is no high half, one before a number that is no low half, and a pair
 module _ (u : ℕ) where
@@ -126,10 +89,12 @@ nothing : Decodes []
 unfolding putChars unitsOf join utf8s
 nothing = unescaped-nil
 
-plain-first : {c : Char} (cs : List Char) → Plain c → Decodes cs → Decodes (c ∷ cs)
+plain-first : (c : Char) (cs : List Char) → IsPlain c → Decodes cs → Decodes (c ∷ cs)
 unfolding putChars unitsOf utf8s
-plain-first {c} cs p e =
-    p .decoded (putChars cs []) ∙ ap (utf8 (unitOf c)) e ∙ sym (ap utf8s (join-alone (unitOf c) (unitsOf cs) (scalar-high (p .scalar))))
+plain-first c cs p e =
+    p .character .decodes (putChars cs [])
+    ∙ ap (utf8 (unitOf c)) e
+    ∙ sym (ap utf8s (join-alone (unitOf c) (unitsOf cs) (scalar-high (p .character .scalar))))
 
 -- what follows begins no low half, by its bytes and by its numbers
 record NoLow (u : ℕ) (cs : List Char) : Type 0 where
@@ -140,10 +105,10 @@ end-no-low : (u : ℕ) → NoLow u []
 unfolding putChars lowAt join unitsOf
 end-no-low u = record { bytes = refl; numbers = refl }
 
-plain-no-low : {c : Char} (u : ℕ) (cs : List Char) → Plain c → NoLow u (c ∷ cs)
+plain-no-low : (u : ℕ) (c : Char) (cs : List Char) → IsPlain c → NoLow u (c ∷ cs)
 unfolding putChars unitsOf
-plain-no-low {c} u cs p =
-    record { bytes = p .no-low (putChars cs []); numbers = join-before u (unitOf c) (unitsOf cs) (scalar-low (p .scalar)) }
+plain-no-low u c cs p =
+    record { bytes = p .no-low (putChars cs []); numbers = join-before u (unitOf c) (unitsOf cs) (scalar-low (p .character .scalar)) }
 
 abbrev pairBefore : Hex → Hex → Hex → Hex → List ℕ → Bool
 pairBefore x y z w s = pairAt (0x5C ∷ 0x75 ∷ hexByte x ∷ hexByte y ∷ hexByte z ∷ hexByte w ∷ s)
@@ -189,22 +154,22 @@ module _ (x y z w : Hex) where
             (not-high (hexByte x) (hexByte y) (hexByte z) (hexByte w) (putChars (G.unicode x′ y′ z′ w′ ∷ cs) []) (ap isHigh (hex-number x y z w) ∙ p))
             (join-alone (hexNumber x y z w) (hexNumber x′ y′ z′ w′ ∷ unitsOf cs) p) e′
 
-  unicode-plain : {c : Char} (cs : List Char) → Plain c → Decodes (c ∷ cs) → Decodes (G.unicode x y z w ∷ c ∷ cs)
-  unicode-plain {c} cs p = unicode-first (c ∷ cs) (plain-no-low (hexNumber x y z w) cs p)
+  unicode-plain : (c : Char) (cs : List Char) → IsPlain c → Decodes (c ∷ cs) → Decodes (G.unicode x y z w ∷ c ∷ cs)
+  unicode-plain c cs p = unicode-first (c ∷ cs) (plain-no-low (hexNumber x y z w) c cs p)
 
 chars-decoded : (cs : List Char) → Decodes cs
 chars-decoded [] = nothing
-chars-decoded (G.low x ∷ cs) = plain-first cs (low-plain x) (chars-decoded cs)
-chars-decoded (G.mid x ∷ cs) = plain-first cs (mid-plain x) (chars-decoded cs)
-chars-decoded (G.high x ∷ cs) = plain-first cs (high-plain x) (chars-decoded cs)
-chars-decoded (G.wide p ∷ cs) = plain-first cs (wide-plain p) (chars-decoded cs)
-chars-decoded (G.escaped e ∷ cs) = plain-first cs (escaped-plain e) (chars-decoded cs)
+chars-decoded (G.low x ∷ cs) = plain-first (G.low x) cs (low-plain x) (chars-decoded cs)
+chars-decoded (G.mid x ∷ cs) = plain-first (G.mid x) cs (mid-plain x) (chars-decoded cs)
+chars-decoded (G.high x ∷ cs) = plain-first (G.high x) cs (high-plain x) (chars-decoded cs)
+chars-decoded (G.wide p ∷ cs) = plain-first (G.wide p) cs (wide-plain p) (chars-decoded cs)
+chars-decoded (G.escaped e ∷ cs) = plain-first (G.escaped e) cs (escaped-plain e) (chars-decoded cs)
 chars-decoded (G.unicode x y z w ∷ []) = unicode-first x y z w [] (end-no-low (hexNumber x y z w)) nothing
-chars-decoded (G.unicode x y z w ∷ G.low x′ ∷ cs) = unicode-plain x y z w cs (low-plain x′) (chars-decoded (G.low x′ ∷ cs))
-chars-decoded (G.unicode x y z w ∷ G.mid x′ ∷ cs) = unicode-plain x y z w cs (mid-plain x′) (chars-decoded (G.mid x′ ∷ cs))
-chars-decoded (G.unicode x y z w ∷ G.high x′ ∷ cs) = unicode-plain x y z w cs (high-plain x′) (chars-decoded (G.high x′ ∷ cs))
-chars-decoded (G.unicode x y z w ∷ G.wide p ∷ cs) = unicode-plain x y z w cs (wide-plain p) (chars-decoded (G.wide p ∷ cs))
-chars-decoded (G.unicode x y z w ∷ G.escaped e ∷ cs) = unicode-plain x y z w cs (escaped-plain e) (chars-decoded (G.escaped e ∷ cs))
+chars-decoded (G.unicode x y z w ∷ G.low x′ ∷ cs) = unicode-plain x y z w (G.low x′) cs (low-plain x′) (chars-decoded (G.low x′ ∷ cs))
+chars-decoded (G.unicode x y z w ∷ G.mid x′ ∷ cs) = unicode-plain x y z w (G.mid x′) cs (mid-plain x′) (chars-decoded (G.mid x′ ∷ cs))
+chars-decoded (G.unicode x y z w ∷ G.high x′ ∷ cs) = unicode-plain x y z w (G.high x′) cs (high-plain x′) (chars-decoded (G.high x′ ∷ cs))
+chars-decoded (G.unicode x y z w ∷ G.wide p ∷ cs) = unicode-plain x y z w (G.wide p) cs (wide-plain p) (chars-decoded (G.wide p ∷ cs))
+chars-decoded (G.unicode x y z w ∷ G.escaped e ∷ cs) = unicode-plain x y z w (G.escaped e) cs (escaped-plain e) (chars-decoded (G.escaped e ∷ cs))
 chars-decoded (G.unicode x y z w ∷ G.unicode x′ y′ z′ w′ ∷ cs) =
     unicode-second x y z w x′ y′ z′ w′ cs (chars-decoded cs) (chars-decoded (G.unicode x′ y′ z′ w′ ∷ cs))
 
@@ -212,11 +177,11 @@ chars-decoded (G.unicode x y z w ∷ G.unicode x′ y′ z′ w′ ∷ cs) =
 
 unit-ranged : (c : Char) → unitOf c < 0x110000
 unfolding unitOf
-unit-ranged (G.low x) = omega (arith, to-high x)
-unit-ranged (G.mid x) = omega (arith, to-high x)
-unit-ranged (G.high x) = omega (arith, to-high x)
-unit-ranged (G.wide p) = wide-scalar p .ranged
-unit-ranged (G.escaped e) = omega (arith, short-small e)
+unit-ranged (G.low x) = low-plain x .character .scalar .ranged
+unit-ranged (G.mid x) = mid-plain x .character .scalar .ranged
+unit-ranged (G.high x) = high-plain x .character .scalar .ranged
+unit-ranged (G.wide p) = wide-plain p .character .scalar .ranged
+unit-ranged (G.escaped e) = escaped-plain e .character .scalar .ranged
 unit-ranged (G.unicode x y z w) = omega (arith, hex-range x, hex-range y, hex-range z, hex-range w)
 
 units-ranged : (cs : List Char) → Ranged (unitsOf cs)

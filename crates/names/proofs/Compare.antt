@@ -2,22 +2,19 @@
 use mathlib.Core.Path.{_≡_, refl, sym, ap, _∙_}
 use mathlib.Core.Bool.{Bool, true, false, and-false}
 use mathlib.Core.List.{List, [], _∷_, _++_, append-assoc}
-use Prim.Native.Nat.{ℕ, _+_, _-_, _≤_, _<_}
+use Prim.Native.Nat.{ℕ, _+_, _≤_, _<_}
 use native.Mathlib.Omega.{arith}
 use borrow.Author.Tests.{eq-eqb, ne-eqb, eqb-true, eqb-false, le-leb, lt-leb}
 use lib.Dec.{eqb, leb}
 use lib.ListN.{length, getD}
-use lib.Seq.{slice, slice-empty, length-slice}
-use Rattle.bits.specs.Truth.{refuted}
+use lib.Seq.{slice, slice-empty}
 use Rattle.encoding.specs.Bytes.{sameNumbers}
-use Rattle.encoding.specs.BytesLaws.{same-numbers}
 use Rattle.encoding.specs.Unescape.{unescaped}
 use Rattle.encoding.specs.UnescapeLaws.{unescaped-nil}
 use Rattle.escapes.specs.Escapes.{EscapeAt}
 use Rattle.encoding.specs.Points.{utf8}
-use Rattle.escapes.specs.DecodedLaws.{Small, decoded-some}
 use Rattle.names.specs.Names.{stands, After}
-use Rattle.names.proofs.Left.{next, nothing, plain-left, escape-left, decoded-within}
+use Rattle.names.proofs.Left.{next, nothing, plain-left, escape-left}
 
 module _ (names : List ℕ) (i to : ℕ) where
   missed : (s : List ℕ) → stands names (to + 1) to s ≡ false

@@ -12,10 +12,10 @@ use Rattle.encoding.specs.Hex as H
 use Rattle.encoding.specs.Hex.{Hex, hexByte, hexDigit, fourDigits}
 use Rattle.encoding.specs.Points as P
 use Rattle.encoding.specs.Points.{isHigh, isLow, joined, utf8, utf8s, HasHalf, here, there}
-use Rattle.encoding.specs.PointsLaws.{Scalar, small-scalar, wide-scalar, scalar-high}
+use Rattle.encoding.specs.PointsLaws.{Scalar, scalar-high}
 use Rattle.encoding.specs.Unescape.{hexValue, shortPoint, unescaped, Spells}
-use Rattle.encoding.specs.UnescapeLaws.{unescaped-nil, escape-short, escape-alone, escape-pair, not-high, hex-value, hex-range, hex-small}
-use Rattle.encoding.specs.UnescapeLaws.{narrow-decoded, wide-decoded, spelt-is}
+use Rattle.encoding.specs.UnescapeLaws.{unescaped-nil, escape-alone, escape-pair, not-high, hex-value, hex-range, hex-small, spelt-is}
+use Rattle.encoding.specs.UnescapeLaws.{Character, narrow-character, short-character, wide-character}
 use Rattle.query.specs.Escapes as E
 use Rattle.query.specs.Escapes.{Escape, escapeByte, escapePoint, NotD, notDByte, notDDigit, D, dByte, EightToB, eightToBByte, eightToBDigit}
 use Rattle.query.specs.Escapes.{CToF, cToFByte, cToFDigit, HexChar, putHexChar, hexCharPoint}
@@ -101,47 +101,36 @@ module _ (z w : Hex) where
       inside 0xDC00 0xDFFF (fourDigits 13 (cToFDigit y) (hexDigit z) (hexDigit w)) (omega (arith, b .0))
       (omega (arith, b .1, hex-range z, hex-range w))
 
--- what is put before s, decoded, is the code point n, which is no half
-record Character (put : List ℕ → List ℕ) (n : ℕ) : Type 0 where
-  scalar : Scalar n
-  decodes : (s : List ℕ) → unescaped (put s) ≡ utf8 n (unescaped s)
-
--- as itself
-
-narrow : (b : ℕ) → b < 0x80 → (b ≡ 0x5C → ⊥) → Character (λ s. b ∷ s) b
-narrow b h f = record { scalar = small-scalar b h; decodes = λ s. narrow-decoded b s h f }
+-- characters as themselves
 
 first-character : (x : First) → Character (putFirst x) (firstPoint x)
 unfolding putFirst firstPoint
-first-character (G.upper x) = narrow (x .byte) (omega (arith, to-high x)) (λ e. omega (arith, to-high x))
-first-character (G.lower x) = narrow (x .byte) (omega (arith, to-high x)) (λ e. omega (arith, from-low x))
-first-character G.underscore = narrow 0x5F (omega arith) (λ e. omega arith)
-first-character (First.wide p) = record { scalar = wide-scalar p; decodes = wide-decoded p }
+first-character (G.upper x) = narrow-character (x .byte) (omega (arith, to-high x)) (λ e. omega (arith, to-high x))
+first-character (G.lower x) = narrow-character (x .byte) (omega (arith, to-high x)) (λ e. omega (arith, from-low x))
+first-character G.underscore = narrow-character 0x5F (omega arith) (λ e. omega arith)
+first-character (First.wide p) = wide-character p
 
 later-character : (c : Later) → Character (putLater c) (laterPoint c)
 unfolding putLater laterPoint
 later-character (G.first x) = first-character x
-later-character (G.digit x) = narrow (x .byte) (omega (arith, to-high x)) (λ e. omega (arith, to-high x))
+later-character (G.digit x) = narrow-character (x .byte) (omega (arith, to-high x)) (λ e. omega (arith, to-high x))
 
 -- by a backslash and one byte
 
-simple : (b n : ℕ) → (b ≡ 0x75 → ⊥) → shortPoint b ≡ n → n < 0x80 → Character (λ s. 0x5C ∷ b ∷ s) n
-simple b n f e h = record { scalar = small-scalar n h; decodes = λ s. escape-short b s f ∙ ap (λ (m : ℕ). utf8 m (unescaped s)) e }
-
 own-character : (q : Quote) → Character (λ s. 0x5C ∷ quoteByte q ∷ s) (quoteByte q)
 unfolding shortPoint
-own-character G.single = simple 0x27 0x27 (λ e. omega arith) refl (omega arith)
-own-character G.double = simple 0x22 0x22 (λ e. omega arith) refl (omega arith)
+own-character G.single = short-character 0x27 0x27 (λ e. omega arith) refl (omega arith)
+own-character G.double = short-character 0x22 0x22 (λ e. omega arith) refl (omega arith)
 
 escape-character : (e : Escape) → Character (λ s. 0x5C ∷ escapeByte e ∷ s) (escapePoint e)
 unfolding shortPoint
-escape-character E.backspace = simple 0x62 0x08 (λ e. omega arith) refl (omega arith)
-escape-character E.form = simple 0x66 0x0C (λ e. omega arith) refl (omega arith)
-escape-character E.line = simple 0x6E 0x0A (λ e. omega arith) refl (omega arith)
-escape-character E.carriage = simple 0x72 0x0D (λ e. omega arith) refl (omega arith)
-escape-character E.tabulator = simple 0x74 0x09 (λ e. omega arith) refl (omega arith)
-escape-character E.slash = simple 0x2F 0x2F (λ e. omega arith) refl (omega arith)
-escape-character E.backslash = simple 0x5C 0x5C (λ e. omega arith) refl (omega arith)
+escape-character E.backspace = short-character 0x62 0x08 (λ e. omega arith) refl (omega arith)
+escape-character E.form = short-character 0x66 0x0C (λ e. omega arith) refl (omega arith)
+escape-character E.line = short-character 0x6E 0x0A (λ e. omega arith) refl (omega arith)
+escape-character E.carriage = short-character 0x72 0x0D (λ e. omega arith) refl (omega arith)
+escape-character E.tabulator = short-character 0x74 0x09 (λ e. omega arith) refl (omega arith)
+escape-character E.slash = short-character 0x2F 0x2F (λ e. omega arith) refl (omega arith)
+escape-character E.backslash = short-character 0x5C 0x5C (λ e. omega arith) refl (omega arith)
 
 -- by its number
 
@@ -192,10 +181,10 @@ below-quote G.double x = omega (arith, to-high x)
 
 char-character : {q : Quote} (c : Char q) → Character (putChar c) (charPoint c)
 unfolding putChar charPoint
-char-character {q} (G.low x) = narrow (x .byte) (omega (arith, below-quote q x)) (λ e. omega (arith, below-quote q x))
-char-character {q} (G.mid x) = narrow (x .byte) (omega (arith, to-high x)) (λ e. omega (arith, to-high x))
-char-character {q} (G.high x) = narrow (x .byte) (omega (arith, to-high x)) (λ e. omega (arith, from-low x))
-char-character {q} (Char.wide p) = record { scalar = wide-scalar p; decodes = wide-decoded p }
+char-character {q} (G.low x) = narrow-character (x .byte) (omega (arith, below-quote q x)) (λ e. omega (arith, below-quote q x))
+char-character {q} (G.mid x) = narrow-character (x .byte) (omega (arith, to-high x)) (λ e. omega (arith, to-high x))
+char-character {q} (G.high x) = narrow-character (x .byte) (omega (arith, to-high x)) (λ e. omega (arith, from-low x))
+char-character {q} (Char.wide p) = wide-character p
 char-character {q} G.own = own-character q
 char-character {q} (G.escaped e) = escape-character e
 char-character {q} (G.unicode x) = record { scalar = hex-char-scalar x; decodes = hex-char-decoded x }

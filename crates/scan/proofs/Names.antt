@@ -16,7 +16,7 @@ use Rattle.swar.specs.Passing.{at-start, ends-at}
 use Rattle.swar.specs.Run.{Passed, Run}
 use Rattle.scan.specs.Places.{head-of, past, slice-is}
 use Rattle.scan.specs.Scans.{EndsString, EndsName}
-use Rattle.scan.specs.ShapeLaws.{AllOf, CharShape, escape, itself, char-shape}
+use Rattle.scan.specs.ShapeLaws.{CharShape, escape, itself, char-shape}
 use Rattle.scan.proofs.Laws.{run-here, run-past, within-start, string-closed}
 
 none-taken : (s : List ℕ) (n a : ℕ) → Passed bare s a (a + n) → NoBackslash (take n (drop a s))

@@ -1,9 +1,8 @@
 -- What the name of a query takes (change request S-2): where no backslash stands, what is written as the same bytes; and nothing whose name has
 -- half of a surrogate pair. Assumes nothing.
-use mathlib.Core.Path.{_≡_, refl, sym, subst, _∙_}
+use mathlib.Core.Path.{_≡_, refl, sym, subst}
 use mathlib.Core.List.{List, [], List·Memᴰ}
 use mathlib.Core.Logic.{_↔_}
-use Prim.Native.Nat.{ℕ}
 use Rattle.encoding.specs.Points.{HasHalf}
 use Rattle.encoding.specs.Unescape.{NoBackslash}
 use Rattle.encoding.specs.UnescapeLaws.{as-written}
