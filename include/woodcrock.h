@@ -2,14 +2,16 @@
  * Woodcrock: JSONPath on JSON records, each answer proved.
  *
  * A query (part of RFC 9535) and a record (RFC 8259 in UTF-8) are lent as bytes. A lister writes
- * where in the record the nodes stand that the query picks out; nothing is copied or decoded.
+ * where in the record the nodes stand that the query picks out; nothing of the record is copied.
  * Link with libwoodcrock_c.a.
  *
  * A query is `$` and then up to 16 steps: `.name`, `.*`, `['name']`, `["name"]`, `[*]` and `[2]` take
  * from the node itself; a deep step, `..` before the same (`..name`, `..['name']`, `..[2]`), takes
  * from the node and from every node below it. Blanks may stand before a step and inside brackets.
  * A position is written as `0` or with a first digit other than 0, and is at most
- * 9,007,199,254,740,991.
+ * 9,007,199,254,740,991. A quoted name takes the escapes of RFC 9535: a backslash and one of
+ * `b t n f r /`, another backslash, its own quote, or `u` and four hexadecimal digits, of which the
+ * halves of a surrogate pair stand together.
  *
  * What a caller owes. The calls cannot test these; all else is free, and any bytes are answered.
  *   - A pointer with a length n > 0 is that of n readable bytes, or, for `list`, of n readable and

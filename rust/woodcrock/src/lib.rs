@@ -17,8 +17,8 @@
 //! A query is `$` and then up to 16 steps: `.name`, `.*`, `['name']`, `["name"]`, `[*]` and `[2]` take
 //! from the node itself; with two dots, `..name`, `..*`, `..['name']`, `..[*]` and `..[2]`, a step takes
 //! from the node and from every node below it. Each node is listed once, and the first bytes rise.
-//! Members that repeat a name all match. A position is that of an element of an array, counted from 0, at most [`MAX_POSITION`];
-//! an object has none.
+//! Members that repeat a name all match. A position is that of an element of an array, counted from
+//! 0, at most [`MAX_POSITION`]; an object has none.
 //!
 //! ```
 //! let lots = br#"[["A-11", "A-12", "A-13"], ["B-3"]]"#;
