@@ -5,6 +5,7 @@ ghost use mathlib.Core.Path.{_≡_};
 ghost use mathlib.Core.Bool.{true, _&&_};
 ghost use mathlib.Core.List.{List};
 ghost use Prim.Native.Nat.{ℕ, _≤_, _<_};
+ghost use lib.Bits.{bitAnd};
 ghost use lib.Dec.{eqb};
 ghost use lib.ListN.{length};
 ghost use lib.Seq.{slice};
@@ -203,6 +204,14 @@ pub fn taking_escaped(
         return marks & every;
     }
     (marks & every) | decoded(names, operands, count, asked, record, x, y)
+}
+
+// Of the marks, those whose next step takes a member, whatever its name, where none of these steps has a name.
+pub fn taking_nameless(kinds: Kinds, marks: u16) -> u16
+    requires { ⌜ bitAnd marks (kinds .named) ≡ 0 ⌝ }
+    ensures { λ r. ⌜ ((names operands points : List ℕ) → Taken names kinds operands marks (member points) r) ⌝ }
+{
+    marks & kinds.every
 }
 
 // Of the marks, those whose next step takes the element at the position `index`.

@@ -77,8 +77,11 @@ fn enter_child(
     let above = around.marks;
     let from = item.from;
     let to = item.to;
+    // All items of a container have the same marks above them: whether these ask for a name is found out once.
     let hits = if object {
-        if item.escaped {
+        if above & kinds.named == 0 {
+            marks::taking_nameless(kinds, above)
+        } else if item.escaped {
             marks::taking_escaped(
                 names,
                 operands,
