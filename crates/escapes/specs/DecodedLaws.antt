@@ -1,4 +1,4 @@
--- How long a name is once its escapes are decoded: never longer than it was written, and some byte where some was. Assumes nothing.
+-- How long a name is once its escapes are decoded: never longer than it was written. Assumes nothing.
 use mathlib.Core.Path.{_≡_, refl, sym, ap, _∙_}
 use mathlib.Core.List.{List, [], _∷_}
 use mathlib.Core.Bool.{Bool, true, false, _&&_, and-eq-true-iff}
@@ -87,16 +87,6 @@ module _ (s : List ℕ) where
           let small = short-small (getD s 1 0) h in
           fits (shortPoint (getD s 1 0)) 1 2 (utf8-two (shortPoint (getD s 1 0)) (omega arith)) (omega arith) l short-none (omega arith)
 
-either-some : (x : Bool) (s t : List ℕ) → 1 ≤ length s → 1 ≤ length t → 1 ≤ length (ifElse x s t)
-either-some true s t h k = h
-either-some false s t h k = k
-
-utf8-some : (p : ℕ) (s : List ℕ) → 1 ≤ length (utf8 p s)
-unfolding utf8
-utf8-some p s =
-    either-some (ltb p 0x80) _ _ (omega arith)
-    (either-some (ltb p 0x800) _ _ (omega arith) (either-some (ltb p 0x10000) _ _ (omega arith) (omega arith)))
-
 length-utf8 : (p : ℕ) (s : List ℕ) → length (utf8 p s) ≡ length (utf8 p []) + length s
 length-utf8 p s = ap length (utf8-append p s) ∙ length-append (utf8 p []) s
 
@@ -131,11 +121,3 @@ decoded-length s small = go (length s) s (omega arith) small
             length (unescaped (drop (sizeAt (b ∷ s)) (b ∷ s))) ≤ length (drop (sizeAt (b ∷ s)) (b ∷ s)) → length (unescaped (b ∷ s)) ≤ length (b ∷ s)
         by true e f g = escape-length s (b ∷ s) (ap (λ (a : ℕ). a ∷ s) (eqb-true b 0x5C e)) small g
         by false e f g = rw (unescaped-plain b s (eqb-false b 0x5C e)) (omega arith)
-
--- and not empty
-pub decoded-some : (b : ℕ) (s : List ℕ) → 1 ≤ length (unescaped (b ∷ s))
-decoded-some b s = by (eqb b 0x5C) refl
-  where
-    by : (x : Bool) → eqb b 0x5C ≡ x → 1 ≤ length (unescaped (b ∷ s))
-    by true e = rw (eqb-true b 0x5C e, unescaped-escape s) (utf8-some (pointAt (0x5C ∷ s)) (unescaped (drop (sizeAt (0x5C ∷ s)) (0x5C ∷ s))))
-    by false e = rw (unescaped-plain b s (eqb-false b 0x5C e)) (omega arith)
