@@ -2,9 +2,16 @@
 // that is not entered is skipped by its brackets and not checked.
 #include "common.hpp"
 
+#include <cstring>
 #include <simdjson.h>
 
 using namespace simdjson;
+
+// Whether an escape stands in a name that begins here.
+static bool has_escape(const char *written)
+{
+    return written[std::strcspn(written, "\"\\")] == '\\';
+}
 
 static size_t below(const Query &query, ondemand::array array, uint32_t marks);
 static size_t below(const Query &query, ondemand::object object, uint32_t marks);
@@ -37,8 +44,14 @@ static size_t below(const Query &query, ondemand::object object, uint32_t marks)
     size_t nodes = 0;
     for (ondemand::field member : object) {
         ondemand::raw_json_string key = member.key();
-        uint32_t taking =
-            query.taking_member(marks, [&](std::string_view name) { return key == name; });
+        bool escaped = has_escape(key.raw());
+        std::string_view decoded;
+        if (escaped) {
+            decoded = member.unescaped_key();
+        }
+        uint32_t taking = query.taking_member(marks, [&](std::string_view name) {
+            return escaped ? decoded == name : key == name;
+        });
         uint32_t next = query.next(marks, taking);
         nodes += query.picked(taking) + (next != 0 ? inside(query, member.value(), next) : 0);
     }
