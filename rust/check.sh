@@ -16,7 +16,13 @@ rt staticlib woodcrock_c
 rt check picklist
 
 cd rust
+cargo build --locked --offline --release --package differential
+# Random cases beyond those of the tests, from a seed of their own; they take one core, and run beside
+# the tests.
+cargo run --locked --offline --release --package differential -- --seed 2 --cases 200000 &
+random=$!
+trap 'kill "$random" 2> /dev/null || true' EXIT
 cargo test --locked --offline --workspace
-# Random cases beyond those of the tests, from a seed of their own.
-cargo run --locked --offline --release --package differential -- --seed 2 --cases 200000
+wait "$random"
+trap - EXIT
 cargo run --locked --offline --release --package differential -- --seed 2 --picklist ../target/bin/picklist
