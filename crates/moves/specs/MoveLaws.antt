@@ -112,15 +112,15 @@ leadsTo [] p b r = false
 leadsTo (m ∷ ms) p b r =
     ((leb (m .low) b && leb b (m .high)) && (eqb (stateOf (m .from)) (stateOf p) && eqb (stateOf (m .to)) r)) || leadsTo ms p b r
 
--- a stand by its state
+-- the stands by their states
 stands : List Stand
 stands = point U.one ∷ point U.two ∷ point U.three ∷ point U.after-e0 ∷ point U.after-ed ∷ point U.after-f0 ∷ point U.after-f4 ∷ escape ∷ between ∷ []
 
-standOf : ℕ → Stand
-standOf n = getD stands (n / 6 - 1) between
+standAt : ℕ → Stand
+standAt n = getD stands n between
 
-stand-is : (p : Stand) → standOf (stateOf p) ≡ p
-unfolding standOf stands
+stand-is : (p : Stand) → standAt (stateOf p / 6 - 1) ≡ p
+unfolding standAt stands
 stand-is between = refl
 stand-is (point U.one) = refl
 stand-is (point U.two) = refl
@@ -132,7 +132,18 @@ stand-is (point U.after-f4) = refl
 stand-is escape = refl
 
 same-stand : (p q : Stand) → stateOf p ≡ stateOf q → p ≡ q
-same-stand p q e = sym (stand-is p) ∙ ap standOf e ∙ stand-is q
+same-stand p q e = sym (stand-is p) ∙ ap (λ (n : ℕ). standAt (n / 6 - 1)) e ∙ stand-is q
+
+stand-within : (p : Stand) → stateOf p / 6 - 1 < 9
+stand-within between = omega arith
+stand-within (point U.one) = omega arith
+stand-within (point U.two) = omega arith
+stand-within (point U.three) = omega arith
+stand-within (point U.after-e0) = omega arith
+stand-within (point U.after-ed) = omega arith
+stand-within (point U.after-f0) = omega arith
+stand-within (point U.after-f4) = omega arith
+stand-within escape = omega arith
 
 -- and the machine goes there
 found : {p : Stand} {b r : ℕ} {ms : List Move} → AllLand ms → T (leadsTo ms p b r) → Followed p b r
@@ -168,50 +179,58 @@ found {p} {b} {r} (_&_ {m} {ms} x xs) t =
     states : Bool
     states = from-here && to-there
 
--- the state that the whole table has for a byte in a state
-unfoldable stateAfter : (b state : ℕ) → ℕ
-stateAfter b state = bitAnd (joined allMoves b 0 / 2 ^ state) 63
+-- the state that a word has for a state
+abbrev stateIn : (w state : ℕ) → ℕ
+stateIn w state = bitAnd (w / 2 ^ state) 63
 
-unfoldable sound : Stand → ℕ → Bool
-sound p b = eqb (stateAfter b (stateOf p)) 0 || leadsTo allMoves p b (stateAfter b (stateOf p))
+-- from p the word w of the byte b leads nowhere, or where a move leads
+unfoldable followsFrom : (w b : ℕ) (p : Stand) → Bool
+followsFrom w b p = eqb (stateIn w (stateOf p)) 0 || leadsTo allMoves p b (stateIn w (stateOf p))
 
-unfoldable nowhereStays : ℕ → Bool
-nowhereStays b = eqb (stateAfter b 0) 0
+-- so it does from every stand, and from nowhere nowhere; the word is given, so that it is computed once for a byte
+unfoldable soundWord : (b w : ℕ) → Bool
+soundWord b w = eqb (stateIn w 0) 0 && allBelow 9 (λ n. followsFrom w b (standAt n))
 
-nowhere-stays : T (allBelow 256 nowhereStays)
-unfolding nowhereStays stateAfter joined allMoves plainMoves escapeMoves pointMoves rows allBelow
-nowhere-stays = tt
+-- the word that the whole table has for a byte
+unfoldable wordOf : ℕ → ℕ
+wordOf b = joined allMoves b 0
 
-all-sound : (p : Stand) → T (allBelow 256 (sound p))
-unfolding sound stateAfter joined leadsTo allMoves plainMoves escapeMoves pointMoves rows allBelow
-all-sound between = tt
-all-sound (point U.one) = tt
-all-sound (point U.two) = tt
-all-sound (point U.three) = tt
-all-sound (point U.after-e0) = tt
-all-sound (point U.after-ed) = tt
-all-sound (point U.after-f0) = tt
-all-sound (point U.after-f4) = tt
-all-sound escape = tt
+all-sound : T (allBelow 256 (λ b. soundWord b (wordOf b)))
+unfolding soundWord followsFrom wordOf joined leadsTo allMoves plainMoves escapeMoves pointMoves rows allBelow standAt stands
+all-sound = tt
 
 -- the whole table, and one without moves
 nowhere-by : {p : Stand} {b r : ℕ} → r ≡ 0 → Followed p b r
 nowhere-by {p} {b} e = subst (Followed p b) (sym e) M.lost
 
 pub leads-all : {t : List ℕ} → Added allMoves (replicate 256 0) t → Leads t
-unfolding stateAfter sound nowhereStays
-leads-all {t} a = record { nowhere = λ b h. word b h 0 ∙ eqb→eq (stateAfter b 0) 0 (all-at 256 nowhereStays nowhere-stays b h); somewhere = leads }
+unfolding wordOf soundWord followsFrom
+leads-all {t} a =
+    record {
+      nowhere = λ b h. ap (λ (w : ℕ). stateIn w 0) (word b h) ∙ eqb→eq (stateIn (wordOf b) 0) 0 (and-left (nothing b) (each b) (is-sound b h));
+      somewhere = λ p b h.
+          subst (λ (w : ℕ). Followed p b (stateIn w (stateOf p))) (sym (word b h))
+          (or-elim (eqb (stateIn (wordOf b) (stateOf p)) 0) (leadsTo allMoves p b (stateIn (wordOf b) (stateOf p))) (follows p b h)
+          (λ x. nowhere-by (eqb→eq (stateIn (wordOf b) (stateOf p)) 0 x))
+          (λ x. found all-land x));
+    }
   where
-    word : (b : ℕ) → b < 256 → (n : ℕ) → bitAnd (getD t b 0 / 2 ^ n) 63 ≡ stateAfter b n
-    word b h n =
-        ap (λ (w : ℕ). bitAnd (w / 2 ^ n) 63) (a .each b h ∙ ap (joined allMoves b) (getD-replicate {A = ℕ} 256 b 0 0 h))
+    word : (b : ℕ) → b < 256 → getD t b 0 ≡ wordOf b
+    word b h = a .each b h ∙ ap (joined allMoves b) (getD-replicate {A = ℕ} 256 b 0 0 h)
 
-    leads : (p : Stand) (b : ℕ) → b < 256 → Followed p b (bitAnd (getD t b 0 / 2 ^ stateOf p) 63)
-    leads p b h =
-        subst (Followed p b) (sym (word b h (stateOf p)))
-        (or-elim (eqb (stateAfter b (stateOf p)) 0) (leadsTo allMoves p b (stateAfter b (stateOf p))) (all-at 256 (sound p) (all-sound p) b h)
-        (λ x. nowhere-by (eqb→eq (stateAfter b (stateOf p)) 0 x))
-        (λ x. found all-land x))
+    nothing : ℕ → Bool
+    nothing b = eqb (stateIn (wordOf b) 0) 0
+
+    each : ℕ → Bool
+    each b = allBelow 9 (λ n. followsFrom (wordOf b) b (standAt n))
+
+    is-sound : (b : ℕ) → b < 256 → T (soundWord b (wordOf b))
+    is-sound b h = all-at 256 (λ b. soundWord b (wordOf b)) all-sound b h
+
+    follows : (p : Stand) (b : ℕ) → b < 256 → T (followsFrom (wordOf b) b p)
+    follows p b h =
+        subst (λ (q : Stand). T (followsFrom (wordOf b) b q)) (stand-is p)
+        (all-at 9 (λ n. followsFrom (wordOf b) b (standAt n)) (and-right (nothing b) (each b) (is-sound b h)) (stateOf p / 6 - 1) (stand-within p))
 
 zero-state : (p : Stand) → bitAnd (0 / 2 ^ stateOf p) 63 ≡ 0
 zero-state between = refl
