@@ -6,7 +6,7 @@ use mathlib.Core.Option.{some, none}
 use Prim.Native.Nat.{ℕ, zero, suc, _+_, _-_, _≤_, _<_}
 use native.Mathlib.Omega.{arith}
 use lib.ListN.{length, getD}
-use Rattle.swar.specs.Kinds.{plain}
+use Rattle.lanes.specs.Kinds.{plain}
 use Rattle.swar.specs.KindLaws as Kinds
 use Rattle.swar.specs.KindLaws.{Plain, NotPlain, is-plain}
 use Rattle.swar.specs.Run.{Passed}

@@ -5,7 +5,7 @@ ghost use mathlib.Core.Path.{_≡_};
 ghost use Prim.Native.Nat.{_≤_, _<_};
 ghost use lib.ListN.{length, getD};
 ghost use Rattle.encoding.specs.RowTable.{RowTable};
-ghost use Rattle.swar.specs.Kinds.{plain};
+ghost use Rattle.lanes.specs.Kinds.{plain};
 ghost use Rattle.swar.specs.Run.{Run};
 ghost use Rattle.swar.specs.KindLaws.{NotPlain};
 ghost use Rattle.json.specs.Machine.{inString, escaping, hexDue, closed};

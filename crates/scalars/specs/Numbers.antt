@@ -11,7 +11,7 @@ use lib.ListN.{length, getD}
 use borrow.Author.Tests.{leb-true, leb-false, not-true, not-false}
 use Rattle.encoding.specs.BytesLaws.{beneath, beyond}
 use Rattle.encoding.specs.BytesLaws as BytesLaws
-use Rattle.swar.specs.Kinds.{digit}
+use Rattle.lanes.specs.Kinds.{digit}
 use Rattle.swar.specs.Run.{Passed, Run}
 use Rattle.swar.specs.Passing.{one-more}
 use Rattle.json.specs.Grammar.{Kind}

@@ -3,7 +3,7 @@ ghost use Prim.Native.Nat.{_≤_, _<_};
 ghost use mathlib.Core.Bool.{true};
 ghost use mathlib.Core.List.{[], _∷_};
 ghost use lib.ListN.{length, getD};
-ghost use Rattle.swar.specs.Kinds.{digit};
+ghost use Rattle.lanes.specs.Kinds.{digit};
 ghost use Rattle.swar.specs.Run.{Run};
 ghost use Rattle.json.specs.Machine.{valueDue, after, afterMinus, afterE, afterSign};
 ghost use Rattle.json.specs.Led.{Led};

@@ -23,7 +23,7 @@ use Rattle.json.specs.Grammar.{Literal, Minus, Int, Char, Name, Value}
 use Rattle.json.specs.Grammar.{putLiteral, putMinus, putInt, putFrac, putExp, putChars, putString, putKey, putValue}
 use Rattle.encoding.specs.BytesLaws.{in-bounds}
 use Rattle.select.specs.Nodes.{size, keySize}
-use Rattle.swar.specs.Kinds.{unquoted, gap}
+use Rattle.lanes.specs.Kinds.{unquoted, gap}
 use Rattle.swar.specs.Run.{Run}
 use Rattle.scan.specs.Places.{Head, head-of, past, past-blanks, slice-is}
 use Rattle.scan.specs.Scans.{isWordByte, IsScalar, EndsBlanks, EndsString, EndsName, EndsScalar, EntersItem}

@@ -11,7 +11,7 @@ use Rattle.blocks.specs.Words.{oddBefore}
 use Rattle.encoding.specs.Unescape.{NoBackslash, none, more}
 use Rattle.json.specs.Append.{append-char}
 use Rattle.json.specs.Grammar.{Char, putChar, putChars}
-use Rattle.swar.specs.Kinds.{unquoted, bare}
+use Rattle.lanes.specs.Kinds.{unquoted, bare}
 use Rattle.swar.specs.Passing.{at-start, ends-at}
 use Rattle.swar.specs.Run.{Passed, Run}
 use Rattle.scan.specs.Places.{head-of, past, slice-is}

@@ -5,7 +5,7 @@ use mathlib.Core.Bool.{Bool, true, false, not, _&&_, _||_}
 use Prim.Native.Nat.{ℕ}
 use lib.Dec.{eqb}
 use Rattle.encoding.specs.Class.{classOf}
-use Rattle.swar.specs.Kinds.{gap}
+use Rattle.lanes.specs.Kinds.{gap}
 
 -- a byte that ends a literal or a number: a closing bracket, a comma or a blank
 unfoldable pub endsWord : ℕ → Bool

@@ -20,7 +20,7 @@ use Rattle.encoding.specs.Utf8.{Wide, putWide}
 use Rattle.json.specs.Grammar as G
 use Rattle.json.specs.Grammar.{Literal, Minus, Int, Frac, Exp, escapeByte, Char, Kind, Key, Value, More}
 use Rattle.json.specs.Grammar.{putLiteral, putMinus, putInt, putFrac, putExp, putExpSign, putChar, putChars, putString, putKey, putValue, putMore}
-use Rattle.swar.specs.Kinds.{inner, gap, bare}
+use Rattle.lanes.specs.Kinds.{inner, gap, bare}
 use Rattle.scan.specs.Scans.{isWordByte}
 use Rattle.scan.specs.Shape.{endsWord, solid, starts, stopped, wordy, Piece, plain, escaped, putPieces}
 

@@ -10,7 +10,8 @@ use Rattle.encoding.specs.Bytes.{Blank, space, tab, feed, return, blankByte}
 use Rattle.encoding.specs.BytesLaws.{inside, beneath, beyond}
 use Rattle.encoding.specs.Class.{classOf}
 use Rattle.encoding.specs.ClassLaws as Class
-use Rattle.swar.specs.Kinds.{plain, unquoted, bare, gap, blank, spaceByte, runKind}
+use Rattle.lanes.specs.Kinds.{plain, unquoted, bare, gap, spaceByte}
+use Rattle.swar.specs.Kinds.{blank, runKind}
 
 -- a plain byte, by the range that it is of
 pub data Plain (b : ℕ) : Type 0 where

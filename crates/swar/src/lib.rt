@@ -1,10 +1,11 @@
 // Runs of bytes of one kind, eight bytes at a time.
-ghost use Prim.Native.Nat.{_+_, _-_, _%_, _^_, _≤_};
+ghost use Prim.Native.Nat.{_≤_};
 ghost use mathlib.Core.Path.{_≡_};
 ghost use lib.ListN.{length};
-ghost use Rattle.swar.specs.Kinds.{plain, unquoted, bare, gap, blank, spaceByte, inner, digit, runKind};
+ghost use Rattle.lanes.specs.Kinds.{plain, unquoted, bare, inner, digit, gap, spaceByte};
+ghost use Rattle.lanes.specs.Stops.{Stops};
+ghost use Rattle.swar.specs.Kinds.{blank, runKind};
 ghost use Rattle.swar.specs.Run.{Passed, Run};
-ghost use Rattle.swar.specs.Stops.{Stops, FirstByte};
 
 const QUOTE: u8 = 0x22;
 
@@ -17,16 +18,6 @@ const TAB: u8 = 0x09;
 const LINE_FEED: u8 = 0x0A;
 
 const CARRIAGE_RETURN: u8 = 0x0D;
-
-// Eight spaces.
-const SPACES: u64 = 0x2020202020202020;
-
-// The number 1 in each of eight bytes, the highest bit of each, and all bits.
-const EACH: u64 = 0x0101010101010101;
-
-const HIGHEST: u64 = 0x8080808080808080;
-
-const ALL: u64 = 0xffffffffffffffff;
 
 // The kinds of bytes whose runs are read eight bytes at a time: plain in a string, no quote, up to the space, and neither quote nor backslash.
 const PLAIN: u8 = 0;
@@ -82,85 +73,20 @@ fn is_of(b: u8, kind: u8) -> bool
     is_plain(b)
 }
 
-// `x` less `m`, wrapped.
-fn minus(x: u64, m: u64) -> u64
-    ensures { λ r. ⌜ r ≡ (x + 2 ^ 64 - m) % 2 ^ 64 ⌝ }
-{
-    std::num::wrapping_sub_u64(x, m)
-}
-
-// Of eight bytes, those before the first quote come back as 0, and that one not.
-fn unquoted_stops(x: u64) -> u64
-    ensures { λ r. ⌜ Stops unquoted x r ⌝ }
-{
-    minus(x ^ 0x2222222222222222, EACH) & (x ^ ALL) & HIGHEST
-}
-
-// Of eight bytes, those before the first quote or backslash come back as 0, and that one not.
-fn bare_stops(x: u64) -> u64
-    ensures { λ r. ⌜ Stops bare x r ⌝ }
-{
-    let quote = minus(x ^ 0x2222222222222222, EACH);
-    let backslash = minus(x ^ 0x5c5c5c5c5c5c5c5c, EACH);
-    (quote | backslash) & (x ^ ALL) & HIGHEST
-}
-
-// Of eight bytes, those before the first that is not plain in a string come back as 0, and that one not.
-fn plain_stops(x: u64) -> u64
-    ensures { λ r. ⌜ Stops plain x r ⌝ }
-{
-    let quote = minus(x ^ 0x2222222222222222, EACH);
-    let backslash = minus(x ^ 0x5c5c5c5c5c5c5c5c, EACH);
-    let control = minus(x, 0x2020202020202020);
-    (quote | backslash | control | x) & HIGHEST
-}
-
-// Of eight bytes, those before the first below 2D or closing bracket come back as 0, and that one not.
-fn inner_stops(x: u64) -> u64
-    ensures { λ r. ⌜ Stops inner x r ⌝ }
-{
-    let below = minus(x, 0x2d2d2d2d2d2d2d2d);
-    let bracket = minus((x | 0x2020202020202020) ^ 0x7d7d7d7d7d7d7d7d, EACH);
-    (below | bracket) & (x ^ ALL) & HIGHEST
-}
-
-// Of eight bytes, those before the first that is no digit come back as 0, and that one not.
-fn digit_stops(x: u64) -> u64
-    ensures { λ r. ⌜ Stops digit x r ⌝ }
-{
-    let below = minus(x, 0x3030303030303030);
-    let above = minus(0x3939393939393939, x);
-    (below | above) & HIGHEST
-}
-
-// Of eight bytes, those before the first above the space come back as 0, and that one not.
-fn gap_stops(x: u64) -> u64
-    ensures { λ r. ⌜ Stops gap x r ⌝ }
-{
-    (minus(SPACES, x) | x) & HIGHEST
-}
-
 // Of eight bytes, those before the first that is not of the kind come back as 0, and that one not.
 fn stops(x: u64, kind: u8) -> u64
     ensures { λ r. ⌜ Stops (runKind kind) x r ⌝ }
 {
     if kind == GAP {
-        return gap_stops(x);
+        return lanes::gap_stops(x);
     }
     if kind == UNQUOTED {
-        return unquoted_stops(x);
+        return lanes::unquoted_stops(x);
     }
     if kind == BARE {
-        return bare_stops(x);
+        return lanes::bare_stops(x);
     }
-    plain_stops(x)
-}
-
-// How many bytes of `w` before its first that is not 0; 8 where there is none.
-fn zero_bytes(w: u64) -> usize
-    ensures { λ r. ⌜ FirstByte w r ⌝ }
-{
-    (bits::lowest(w) / 8) as usize
+    lanes::plain_stops(x)
 }
 
 // The end of the run from `at` on, byte by byte.
@@ -187,7 +113,7 @@ fn run_bytes(s: &[u8], at: usize, kind: u8) -> usize
     while s.len() - i >= 8 {
         let w = stops(bits::load8(s, i), kind);
         if w != 0 {
-            return i + zero_bytes(w);
+            return i + lanes::zero_bytes(w);
         }
         i += 8;
     }
@@ -268,9 +194,9 @@ fn spaces(s: &[u8], at: usize) -> usize
 {
     let mut i = at;
     while s.len() - i >= 8 {
-        let w = bits::load8(s, i) ^ SPACES;
+        let w = lanes::space_stops(bits::load8(s, i));
         if w != 0 {
-            return i + zero_bytes(w);
+            return i + lanes::zero_bytes(w);
         }
         i += 8;
     }
@@ -321,9 +247,9 @@ pub fn inner_run(s: &[u8], at: usize) -> usize
 {
     let mut i = at;
     while s.len() - i >= 8 {
-        let w = inner_stops(bits::load8(s, i));
+        let w = lanes::inner_stops(bits::load8(s, i));
         if w != 0 {
-            return i + zero_bytes(w);
+            return i + lanes::zero_bytes(w);
         }
         i += 8;
     }
@@ -337,17 +263,12 @@ pub fn digit_words(s: &[u8], at: usize) -> usize
 {
     let mut i = at;
     while s.len() - i >= 8 {
-        if digit_stops(bits::load8(s, i)) != 0 {
+        if lanes::digit_stops(bits::load8(s, i)) != 0 {
             return i;
         }
         i += 8;
     }
     i
-}
-
-// Whether a point is among eight bytes. Nothing rests on the answer but how fast a number is read.
-fn has_point(x: u64) -> bool {
-    minus(x ^ 0x2e2e2e2e2e2e2e2e, EACH) & (x ^ ALL) & HIGHEST != 0
 }
 
 // A place from `at` on up to which there are digits: all of those that stand there, up to eight, where a point is near, and else none.
@@ -359,8 +280,8 @@ pub fn digits_to_point(s: &[u8], at: usize) -> usize
         return at;
     }
     let x = bits::load8(s, at);
-    if !has_point(x) {
+    if !lanes::has_point(x) {
         return at;
     }
-    at + zero_bytes(digit_stops(x))
+    at + lanes::zero_bytes(lanes::digit_stops(x))
 }

@@ -6,7 +6,7 @@ use Prim.Native.Nat.{_<_, _-_}
 use native.Mathlib.Omega.{arith}
 use lib.ListN.{length, getD}
 use borrow.Author.Tests.{not-true, not-false}
-use Rattle.swar.specs.Kinds.{plain}
+use Rattle.lanes.specs.Kinds.{plain}
 use Rattle.swar.specs.KindLaws.{not-plain}
 use Rattle.json.specs.Machine.{inString}
 use Rattle.json.specs.Led.{Led, led-here}

@@ -3,10 +3,10 @@
 use Prim.Native.Nat.{_-_}
 use native.Mathlib.Omega.{arith}
 use lib.ListN.{length}
-use Rattle.swar.specs.Kinds.{digit}
+use Rattle.lanes.specs.Kinds.{digit}
+use Rattle.lanes.specs.Stops.{stops-none}
 use Rattle.swar.specs.Run.{Passed}
 use Rattle.swar.specs.Passing.{at-start, passed-more}
-use Rattle.swar.specs.Stops.{stops-none}
 use borrow.Author.Needs.{needs}
 use Rattle.swar.proofs.digit_words.Statement.{statement}
 use Rattle.swar.proofs.digit_words.Tie as tie

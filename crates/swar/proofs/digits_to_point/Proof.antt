@@ -1,8 +1,8 @@
 -- `swar::digits_to_point` meets its contract: it stays where it is, or passes those of eight bytes that stand before the first that is no digit.
 -- Assumes nothing.
 use native.Mathlib.Omega.{arith}
+use Rattle.lanes.specs.Stops.{first-within, stops-before}
 use Rattle.swar.specs.Passing.{at-start, passed-more}
-use Rattle.swar.specs.Stops.{first-within, stops-before}
 use borrow.Author.Needs.{needs}
 use Rattle.swar.proofs.digits_to_point.Statement.{statement}
 use Rattle.swar.proofs.digits_to_point.Tie as tie

@@ -3,10 +3,10 @@
 use Prim.Native.Nat.{_-_}
 use native.Mathlib.Omega.{arith}
 use lib.ListN.{length}
-use Rattle.swar.specs.Kinds.{inner}
+use Rattle.lanes.specs.Kinds.{inner}
+use Rattle.lanes.specs.Stops.{first-within, stops-none, stops-before}
 use Rattle.swar.specs.Run.{Passed}
 use Rattle.swar.specs.Passing.{at-start, passed-more}
-use Rattle.swar.specs.Stops.{first-within, stops-none, stops-before}
 use borrow.Author.Needs.{needs}
 use Rattle.swar.proofs.inner_run.Statement.{statement}
 use Rattle.swar.proofs.inner_run.Tie as tie

@@ -2,7 +2,7 @@
 use mathlib.Core.Path.{sym, ap, _∙_}
 use mathlib.Core.Bool.{Bool}
 use Prim.Native.Nat.{ℕ}
-use Rattle.swar.specs.Kinds.{unquoted, gap}
+use Rattle.lanes.specs.Kinds.{unquoted, gap}
 use Rattle.swar.specs.KindLaws.{kind-gap, kind-unquoted, kind-bare, kind-plain}
 use borrow.Author.Needs.{needs}
 use Rattle.swar.proofs.is_of.Statement.{statement}

@@ -3,10 +3,10 @@
 use Prim.Native.Nat.{ℕ, _-_, _<_}
 use native.Mathlib.Omega.{arith}
 use lib.ListN.{length, getD}
+use Rattle.lanes.specs.Stops.{first-within, stops-none, stops-before, stops-at}
 use Rattle.swar.specs.Kinds.{runKind}
 use Rattle.swar.specs.Run.{Passed}
 use Rattle.swar.specs.Passing.{at-start, passed-more, run-on, ends-at}
-use Rattle.swar.specs.Stops.{first-within, stops-none, stops-before, stops-at}
 use borrow.Author.Needs.{needs}
 use Rattle.swar.proofs.run_bytes.Statement.{statement}
 use Rattle.swar.proofs.run_bytes.Tie as tie

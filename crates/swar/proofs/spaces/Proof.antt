@@ -1,21 +1,15 @@
--- `swar::spaces` meets its contract. The loop's invariant: there are spaces only from `at` to `i`. What differs from a space is not 0, at each of
--- eight bytes. Assumes nothing.
-use mathlib.Core.Path.{refl}
+-- `swar::spaces` meets its contract. The loop's invariant: there are spaces only from `at` to `i`. Eight more are where none of the bytes is
+-- marked; else those before the first that is. Assumes nothing.
 use Prim.Native.Nat.{_-_}
 use native.Mathlib.Omega.{arith}
 use lib.ListN.{length}
-use Rattle.bits.specs.Truth.{allBelow}
-use Rattle.swar.specs.Kinds.{spaceByte}
-use Rattle.swar.specs.Lanes.{Lane, byte, same, both, xor}
+use Rattle.lanes.specs.Kinds.{spaceByte}
+use Rattle.lanes.specs.Stops.{first-within, stops-none, stops-before}
 use Rattle.swar.specs.Run.{Passed}
 use Rattle.swar.specs.Passing.{at-start, passed-more}
-use Rattle.swar.specs.Stops.{marksKind, by-lane, first-within, stops-none, stops-before}
 use borrow.Author.Needs.{needs}
 use Rattle.swar.proofs.spaces.Statement.{statement}
 use Rattle.swar.proofs.spaces.Tie as tie
-
-abbrev lane : Lane
-lane = both xor byte (same 0x20)
 
 abbrev Inv-loop : tie.InvT-loop
 Inv-loop s at i₀ i = Passed spaceByte s at i
@@ -32,6 +26,9 @@ sub-loop c = search needs
 load8-requires : tie.Need-load8-requires Inv-loop μ-loop
 load8-requires c κs = search needs
 
+space-stops-requires : tie.Need-space-stops-requires Inv-loop μ-loop
+space-stops-requires c κs = search needs
+
 zero-bytes-requires : tie.Need-zero-bytes-requires Inv-loop μ-loop
 zero-bytes-requires c κs = search needs
 
@@ -39,12 +36,11 @@ add-result : tie.Need-add-result Inv-loop μ-loop
 add-result c = omega (arith, first-within (c .zero-bytes .ensures))
 
 returns : tie.Need-returns Inv-loop μ-loop
-unfolding allBelow marksKind spaceByte
 returns c =
-    let at = c .before .before .before .before in
+    let at = c .before .before .before .before .before in
     passed-more (c .zero-bytes .result) (at .loop .inv) (omega (arith, first-within (c .zero-bytes .ensures)))
-    (stops-before (λ j. omega (arith, at .before .shared-slice-known .given j)) (c .before .before .load8 .ensures)
-    (by-lane spaceByte lane tt tt refl) (c .zero-bytes .ensures))
+    (stops-before (λ j. omega (arith, at .before .shared-slice-known .given j)) (c .before .before .before .load8 .ensures)
+    (c .before .before .space-stops .ensures) (c .zero-bytes .ensures))
 
 add-i : tie.Need-add-i Inv-loop μ-loop
 add-i c = search needs
@@ -53,12 +49,11 @@ loop-less : tie.Need-loop-less Inv-loop μ-loop
 loop-less c = search needs
 
 loop-again : tie.Need-loop-again Inv-loop μ-loop
-unfolding allBelow marksKind spaceByte
 loop-again c =
-    let at = c .before .before .before in
+    let at = c .before .before .before .before in
     passed-more 8 (at .loop .inv) (omega arith)
-    (stops-none (λ j. omega (arith, at .before .shared-slice-known .given j)) (c .before .load8 .ensures)
-    (by-lane spaceByte lane tt tt refl) (c .if1 .left))
+    (stops-none (λ j. omega (arith, at .before .shared-slice-known .given j)) (c .before .before .load8 .ensures)
+    (c .before .space-stops .ensures) (c .if1 .left))
 
 returns-2 : tie.Need-returns-2 Inv-loop μ-loop
 returns-2 c = c .before .loop .inv
@@ -72,6 +67,7 @@ spaces-spec =
     loop-holds
     sub-loop
     load8-requires
+    space-stops-requires
     zero-bytes-requires
     add-result
     returns

@@ -2,8 +2,8 @@
 use mathlib.Core.Path.{sym, subst}
 use mathlib.Core.Bool.{Bool}
 use Prim.Native.Nat.{ℕ}
+use Rattle.lanes.specs.Stops.{Stops}
 use Rattle.swar.specs.KindLaws.{kind-gap, kind-unquoted, kind-bare, kind-plain}
-use Rattle.swar.specs.Stops.{Stops}
 use borrow.Author.Needs.{needs}
 use Rattle.swar.proofs.stops.Statement.{statement}
 use Rattle.swar.proofs.stops.Tie as tie

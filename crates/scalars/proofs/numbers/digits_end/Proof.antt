@@ -2,7 +2,7 @@
 -- length. Assumes nothing.
 use Prim.Native.Nat.{_-_}
 use lib.ListN.{length}
-use Rattle.swar.specs.Kinds.{digit}
+use Rattle.lanes.specs.Kinds.{digit}
 use Rattle.swar.specs.Run.{Passed}
 use Rattle.swar.specs.Passing.{at-start}
 use Rattle.scalars.specs.Numbers.{digit-inside, digit-more, digits-stop}

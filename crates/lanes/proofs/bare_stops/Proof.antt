@@ -1,12 +1,12 @@
--- `swar::bare_stops` meets its contract. On one byte below 80: the difference to a quote less 1 has the highest bit at a quote alone, and so for a
+-- `lanes::bare_stops` meets its contract. On one byte below 80: the difference to a quote less 1 has the highest bit at a quote alone, and so for a
 -- backslash. No other byte borrows from the next. All 256 bytes are tried. Assumes nothing.
 use borrow.Author.Needs.{needs}
 use Rattle.bits.specs.Truth.{allBelow}
-use Rattle.swar.specs.Kinds.{bare}
-use Rattle.swar.specs.Lanes.{Lane, byte, same, both, and, or, xor, highAt}
-use Rattle.swar.specs.Stops.{marksKind, by-lane}
-use Rattle.swar.proofs.bare_stops.Statement.{statement}
-use Rattle.swar.proofs.bare_stops.Tie as tie
+use Rattle.lanes.specs.Kinds.{bare}
+use Rattle.lanes.specs.Lanes.{Lane, byte, same, both, and, or, xor, highAt}
+use Rattle.lanes.specs.Stops.{marksKind, by-lane}
+use Rattle.lanes.proofs.bare_stops.Statement.{statement}
+use Rattle.lanes.proofs.bare_stops.Tie as tie
 
 abbrev lane : Lane
 lane = both and (both and (both or (highAt 0x22) (highAt 0x5C)) (both xor byte (same 0xFF))) (same 0x80)

@@ -1,13 +1,13 @@
--- `swar::inner_stops` meets its contract. On one byte below 80: the byte less 2D has the highest bit below 2D; with 20 set it is 7D at a closing bracket alone,
+-- `lanes::inner_stops` meets its contract. On one byte below 80: the byte less 2D has the highest bit below 2D; with 20 set it is 7D at a closing bracket alone,
 -- and the difference to 7D less 1 has the highest bit there. No other byte borrows from the next.
 -- All 256 bytes are tried. Assumes nothing.
 use borrow.Author.Needs.{needs}
 use Rattle.bits.specs.Truth.{allBelow}
-use Rattle.swar.specs.Kinds.{inner}
-use Rattle.swar.specs.Lanes.{Lane, byte, same, both, and, or, xor, minus}
-use Rattle.swar.specs.Stops.{marksKind, by-lane}
-use Rattle.swar.proofs.inner_stops.Statement.{statement}
-use Rattle.swar.proofs.inner_stops.Tie as tie
+use Rattle.lanes.specs.Kinds.{inner}
+use Rattle.lanes.specs.Lanes.{Lane, byte, same, both, and, or, xor, minus}
+use Rattle.lanes.specs.Stops.{marksKind, by-lane}
+use Rattle.lanes.proofs.inner_stops.Statement.{statement}
+use Rattle.lanes.proofs.inner_stops.Tie as tie
 
 abbrev lane : Lane
 lane =

@@ -1,13 +1,13 @@
--- `swar::unquoted_stops` meets its contract. On one byte below 80: the difference to a quote less 1 has the highest bit at a quote alone.
+-- `lanes::unquoted_stops` meets its contract. On one byte below 80: the difference to a quote less 1 has the highest bit at a quote alone.
 -- No other byte borrows from the next.
 -- All 256 bytes are tried. Assumes nothing.
 use borrow.Author.Needs.{needs}
 use Rattle.bits.specs.Truth.{allBelow}
-use Rattle.swar.specs.Kinds.{unquoted}
-use Rattle.swar.specs.Lanes.{Lane, byte, same, both, and, xor, highAt}
-use Rattle.swar.specs.Stops.{marksKind, by-lane}
-use Rattle.swar.proofs.unquoted_stops.Statement.{statement}
-use Rattle.swar.proofs.unquoted_stops.Tie as tie
+use Rattle.lanes.specs.Kinds.{unquoted}
+use Rattle.lanes.specs.Lanes.{Lane, byte, same, both, and, xor, highAt}
+use Rattle.lanes.specs.Stops.{marksKind, by-lane}
+use Rattle.lanes.proofs.unquoted_stops.Statement.{statement}
+use Rattle.lanes.proofs.unquoted_stops.Tie as tie
 
 abbrev lane : Lane
 lane = both and (both and (highAt 0x22) (both xor byte (same 0xFF))) (same 0x80)

@@ -1,7 +1,7 @@
--- `swar::zero_bytes` meets its contract: eight bits are a byte, so the byte of the lowest bit is its place by eight. Assumes nothing.
+-- `lanes::zero_bytes` meets its contract: eight bits are a byte, so the byte of the lowest bit is its place by eight. Assumes nothing.
 use borrow.Author.Needs.{needs}
-use Rattle.swar.proofs.zero_bytes.Statement.{statement}
-use Rattle.swar.proofs.zero_bytes.Tie as tie
+use Rattle.lanes.proofs.zero_bytes.Statement.{statement}
+use Rattle.lanes.proofs.zero_bytes.Tie as tie
 
 lowest-requires : tie.Need-lowest-requires
 lowest-requires c κs = search needs

@@ -1,13 +1,13 @@
--- `swar::plain_stops` meets its contract. On one byte below 80: the difference to a quote less 1 has the highest bit at a quote alone, and so for a backslash;
+-- `lanes::plain_stops` meets its contract. On one byte below 80: the difference to a quote less 1 has the highest bit at a quote alone, and so for a backslash;
 -- the byte less 20 has it below 20. A byte from 80 on has it itself. No plain byte borrows from the next.
 -- All 256 bytes are tried. Assumes nothing.
 use borrow.Author.Needs.{needs}
 use Rattle.bits.specs.Truth.{allBelow}
-use Rattle.swar.specs.Kinds.{plain}
-use Rattle.swar.specs.Lanes.{Lane, byte, same, both, and, or, minus, highAt}
-use Rattle.swar.specs.Stops.{marksKind, by-lane}
-use Rattle.swar.proofs.plain_stops.Statement.{statement}
-use Rattle.swar.proofs.plain_stops.Tie as tie
+use Rattle.lanes.specs.Kinds.{plain}
+use Rattle.lanes.specs.Lanes.{Lane, byte, same, both, and, or, minus, highAt}
+use Rattle.lanes.specs.Stops.{marksKind, by-lane}
+use Rattle.lanes.proofs.plain_stops.Statement.{statement}
+use Rattle.lanes.proofs.plain_stops.Tie as tie
 
 abbrev lane : Lane
 lane = both and (both or (both or (both or (highAt 0x22) (highAt 0x5C)) (both minus byte (same 0x20))) byte) (same 0x80)

@@ -1,8 +1,8 @@
--- `swar::minus` meets its contract: what the library's call gives back wraps to `x` when `m` is added. Assumes nothing.
+-- `lanes::minus` meets its contract: what the library's call gives back wraps to `x` when `m` is added. Assumes nothing.
 use native.Mathlib.Omega.{arith}
 use borrow.Author.Needs.{needs}
-use Rattle.swar.proofs.minus.Statement.{statement}
-use Rattle.swar.proofs.minus.Tie as tie
+use Rattle.lanes.proofs.minus.Statement.{statement}
+use Rattle.lanes.proofs.minus.Tie as tie
 
 wrapping-sub-u64-requires : tie.Need-wrapping-sub-u64-requires
 wrapping-sub-u64-requires c κs = search needs

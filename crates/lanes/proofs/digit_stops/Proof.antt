@@ -1,12 +1,12 @@
--- `swar::digit_stops` meets its contract. On one byte: the byte less 30, or 39 less the byte, has the highest bit where the byte is no digit. No
+-- `lanes::digit_stops` meets its contract. On one byte: the byte less 30, or 39 less the byte, has the highest bit where the byte is no digit. No
 -- digit borrows from the next. All 256 bytes are tried. Assumes nothing.
 use borrow.Author.Needs.{needs}
 use Rattle.bits.specs.Truth.{allBelow}
-use Rattle.swar.specs.Kinds.{digit}
-use Rattle.swar.specs.Lanes.{Lane, byte, same, both, and, or, minus}
-use Rattle.swar.specs.Stops.{marksKind, by-lane}
-use Rattle.swar.proofs.digit_stops.Statement.{statement}
-use Rattle.swar.proofs.digit_stops.Tie as tie
+use Rattle.lanes.specs.Kinds.{digit}
+use Rattle.lanes.specs.Lanes.{Lane, byte, same, both, and, or, minus}
+use Rattle.lanes.specs.Stops.{marksKind, by-lane}
+use Rattle.lanes.proofs.digit_stops.Statement.{statement}
+use Rattle.lanes.proofs.digit_stops.Tie as tie
 
 abbrev lane : Lane
 lane = both and (both or (both minus byte (same 0x30)) (both minus (same 0x39) byte)) (same 0x80)

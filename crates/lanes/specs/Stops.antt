@@ -12,7 +12,7 @@ use Rattle.bits.specs.Bits.{bit, Lowest}
 use Rattle.bits.specs.Laws.{lt-or-ge, bit-ext, bit-zero}
 use Rattle.bits.specs.Truth.{allBelow, all-at, and-left, and-right, beq→eq}
 use Rattle.bits.specs.Word.{word, Loaded, word-lt, word-bytes, lowest-before, lowest-byte}
-use Rattle.swar.specs.Lanes.{Lane, onByte, onWord, fits, keeps, lanes}
+use Rattle.lanes.specs.Lanes.{Lane, onByte, onWord, fits, keeps, lanes}
 
 -- of the eight bytes of x, those before the first that is not of the kind have a byte 0 in r, and that one has not
 pub record Stops (kind : ℕ → Bool) (x r : ℕ) : Type 0 where
