@@ -18,9 +18,12 @@ use Rattle.classifier.specs.Classes.{byteAt, isBackslash}
 use Rattle.blocks.specs.Laws.{Carried, opening-past, closing-past, size-le}
 use Rattle.blocks.specs.Sorted.{Sorted}
 use Rattle.blocks.specs.declared.Words.{Words}
-use Rattle.leap.specs.Brackets.{depthAt, depthIn, Closed}
-use Rattle.leap.specs.BracketLaws.{depth-falls, closed-at, closed-once}
-use Rattle.leap.specs.Passing.{FindsClosing, KeptBlock, Kept, Near}
+use Rattle.brackets.specs.Closing.{FindsClosing}
+use Rattle.brackets.specs.Depth.{depthAt}
+use Rattle.brackets.specs.DepthLaws.{depth-falls}
+use Rattle.leap.specs.Brackets.{depthIn, Closed}
+use Rattle.leap.specs.BracketLaws.{closed-at, closed-once}
+use Rattle.leap.specs.Passing.{KeptBlock, Kept, Near}
 use Rattle.leap.proofs.Ways.{falls-inside, block-opens, word-depth}
 
 -- ---- just behind an opening bracket

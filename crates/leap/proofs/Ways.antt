@@ -21,11 +21,14 @@ use Rattle.blocks.specs.Counts.{countedOf, SortedCounted}
 use Rattle.blocks.specs.Sorted.{Sorted}
 use Rattle.blocks.specs.declared.Counted.{Counted}
 use Rattle.blocks.specs.declared.Words.{Words}
+use Rattle.brackets.specs.Closing.{NotBoth, FindsClosing}
+use Rattle.brackets.specs.Depth.{depthAt}
+use Rattle.brackets.specs.DepthLaws.{depth-none-at, depth-falls, depth-same}
 use Rattle.json.specs.Grammar.{putItems}
-use Rattle.leap.specs.Brackets.{depthAt, depthIn, Closed, Leaves}
-use Rattle.leap.specs.BracketLaws.{depth-none-at, depth-falls, depth-same, depth-drop, closed-at, closed-once}
+use Rattle.leap.specs.Brackets.{depthIn, Closed, Leaves}
+use Rattle.leap.specs.BracketLaws.{depth-drop, closed-at, closed-once}
 use Rattle.leap.specs.ContainerEnds.{items-closed}
-use Rattle.leap.specs.Passing.{NotBoth, FindsClosing, AfterClosing}
+use Rattle.leap.specs.Passing.{AfterClosing}
 
 -- ---- what holds at a place
 

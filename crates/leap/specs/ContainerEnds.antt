@@ -10,6 +10,7 @@ use lib.ListN.{length, drop}
 use Rattle.blocks.specs.Words.{inString, opensAt, closesAt}
 use Rattle.classifier.specs.Classes.{byteAt}
 use Rattle.blocks.specs.Laws.{Carried, carried-string}
+use Rattle.brackets.specs.DepthLaws.{depth-none-at, depth-quiet-to, depth-more, depth-less}
 use Rattle.encoding.specs.Bytes.{Blanks, putBlanks}
 use Rattle.json.specs.Grammar as G
 use Rattle.json.specs.Grammar.{Kind, Key, Value, Items, More, putKey, putValue, putItems, putMore}
@@ -22,7 +23,6 @@ use Rattle.strings.specs.Texts.{crossed-blanks, crossed-comma, crossed-key, cro
 use Rattle.strings.specs.StringsAre.{value-strings}
 use Rattle.strings.specs.WordTwo.{carried-start}
 use Rattle.leap.specs.Brackets.{depthIn, Closed}
-use Rattle.leap.specs.BracketLaws.{depth-none-at, depth-quiet-to, depth-more, depth-less}
 
 abbrev isOpening : ℕ → Bool
 isOpening b = eqb b 0x5B || eqb b 0x7B

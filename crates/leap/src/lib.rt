@@ -1,20 +1,17 @@
 // The place after a container: by the words that are kept of an earlier block, where these reach that far, and else block by block.
 use bits::has;
-use bits::lowest;
 use blocks::Counted;
 use blocks::count;
 use blocks::sort_block;
 use blocks::sort_full;
 ghost use mathlib.Core.Path.{_≡_};
 ghost use mathlib.Core.List.{List};
-ghost use mathlib.Core.Bool.{true};
-ghost use Prim.Native.Nat.{ℕ, _+_, _≤_, _<_};
+ghost use Prim.Native.Nat.{ℕ, _≤_};
 ghost use lib.ListN.{length};
-ghost use Rattle.bits.specs.Bits.{bit};
-ghost use Rattle.blocks.specs.Counts.{countedOf, SortedCounted};
+ghost use Rattle.blocks.specs.Counts.{SortedCounted};
 ghost use Rattle.json.specs.Verdict.{maxBytes};
-ghost use Rattle.leap.specs.Brackets.{afterPlace, Leaves};
-ghost use Rattle.leap.specs.Passing.{Cleared, NotBoth, FindsClosing, AfterClosing, Kept, Near};
+ghost use Rattle.leap.specs.Brackets.{Leaves};
+ghost use Rattle.leap.specs.Passing.{AfterClosing, Kept, Near};
 
 const BLOCK: usize = 64;
 
@@ -31,71 +28,6 @@ const END: usize = 0;
 const OPENING: usize = 1;
 
 const CLOSING: usize = 2;
-
-// The place in its block of the bracket that closes the last open one, or 64; and how many are open after the block.
-struct Found {
-    place: usize,
-    depth: usize,
-}
-
-// The word without its bit i.
-fn without(w: u64, i: usize) -> u64
-    requires { ⌜ i < 64 ⌝ }
-    requires { ⌜ bit i w ≡ true ⌝ }
-    ensures { λ r. ⌜ Cleared w i r ⌝ }
-{
-    w ^ (1u64 << i)
-}
-
-// How many brackets are open after the bracket at place i of a block, where `level` are before it.
-fn next_level(opening: u64, i: usize, level: usize) -> usize
-    requires { ⌜ (i < 64) × (1 ≤ level) × (level ≤ maxBytes + 65) ⌝ }
-    ensures { λ r. ⌜ r ≡ afterPlace (bit i opening) true level ⌝ }
-{
-    if has(opening, i) {
-        return level + 1;
-    }
-    level - 1
-}
-
-// Finds the bracket that closes the last of `depth` open ones, bracket by bracket.
-fn find_closing(opening: u64, closing: u64, depth: usize) -> Found
-    requires { ⌜ (1 ≤ depth) × (depth ≤ maxBytes + 1) ⌝ }
-    ensures { λ r. ⌜ FindsClosing opening closing depth (r .place) (r .depth) ⌝ }
-{
-    let mut left = opening | closing;
-    let mut level = depth;
-    while left != 0 {
-        let i = lowest(left) as usize;
-        left = without(left, i);
-        level = next_level(opening, i, level);
-        if level == 0 {
-            return Found { place: i, depth: 0 };
-        }
-    }
-    Found {
-        place: BLOCK,
-        depth: level,
-    }
-}
-
-// The same in a block whose brackets are counted: with fewer closing brackets than are open it is passed whole.
-fn pass_block(block: Counted, depth: usize) -> Found
-    requires { ⌜ (1 ≤ depth) × (depth ≤ maxBytes + 1) ⌝ }
-    requires { ⌜ (block ≡ countedOf (block .words)) × NotBoth (block .words .opening) (block .words .closing) ⌝ }
-    ensures { λ r. ⌜ FindsClosing (block .words .opening) (block .words .closing) depth (r .place) (r .depth) ⌝ }
-{
-    let opened = block.opened as usize;
-    let closed = block.closed as usize;
-    if closed < depth {
-        return Found {
-            place: BLOCK,
-            depth: depth + opened - closed,
-        };
-    }
-    let w = block.words;
-    find_closing(w.opening, w.closing, depth)
-}
 
 // Looks at one byte in each of eight blocks, eight blocks before their turn, so that they are at hand by then: whether all are 0, as they
 // never are in a JSON text. A shorter part is not looked at.
@@ -146,7 +78,7 @@ fn leave_blocks(record: &[u8], at: usize, kept: &mut [u64; KEPT]) -> usize
     while i < record.len() {
         let look = (i - at) % AHEAD == LOOK;
         let block = next_words(&record[i..], look, inside, odd);
-        let found = pass_block(block, depth);
+        let found = brackets::pass_block(block, depth);
         let w = block.words;
         let place = found.place;
         if place < BLOCK {
@@ -186,7 +118,7 @@ fn leave_near(at: usize, kept: &[u64; KEPT]) -> usize
         return 0;
     }
     let closing = kept[CLOSING];
-    let found = find_closing(opening >> near, closing >> near, 1);
+    let found = brackets::find_closing(opening >> near, closing >> near, 1);
     let place = found.place;
     if place >= BLOCK {
         return 0;

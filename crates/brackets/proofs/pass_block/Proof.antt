@@ -1,11 +1,11 @@
--- `leap::pass_block` meets its contract: with fewer closing brackets than are open the depth is a sum. Assumes nothing.
+-- `brackets::pass_block` meets its contract: with fewer closing brackets than are open the depth is a sum. Assumes nothing.
 use borrow.Author.Needs.{needs}
 use mathlib.Core.Path.{ap}
 use native.Mathlib.Omega.{arith}
 use Rattle.blocks.specs.declared.Counted.{Counted}
-use Rattle.leap.proofs.Words.{passed-counted}
-use Rattle.leap.proofs.pass_block.Statement.{statement}
-use Rattle.leap.proofs.pass_block.Tie as tie
+use Rattle.brackets.proofs.Words.{passed-counted}
+use Rattle.brackets.proofs.pass_block.Statement.{statement}
+use Rattle.brackets.proofs.pass_block.Tie as tie
 
 cast-opened : tie.Need-cast-opened
 cast-opened c = search needs

@@ -1,12 +1,12 @@
--- `leap::find_closing` meets its contract. The loop's invariant: every bracket below the lowest bit that is left is counted.
+-- `brackets::find_closing` meets its contract. The loop's invariant: every bracket below the lowest bit that is left is counted.
 -- The measure is how many bits are left. Assumes nothing.
 use borrow.Author.Needs.{needs}
 use lib.Bits.{or-lt}
 use lib.Count.{ones}
 use native.Mathlib.Omega.{arith}
-use Rattle.leap.proofs.Words.{Counting, counting-starts, counting-none, counting-found, counting-on, next-lt, next-on, counting-falls}
-use Rattle.leap.proofs.find_closing.Statement.{statement}
-use Rattle.leap.proofs.find_closing.Tie as tie
+use Rattle.brackets.proofs.Words.{Counting, counting-starts, counting-none, counting-found, counting-on, next-lt, next-on, counting-falls}
+use Rattle.brackets.proofs.find_closing.Statement.{statement}
+use Rattle.brackets.proofs.find_closing.Tie as tie
 
 abbrev Inv-loop : tie.InvT-loop
 Inv-loop opening closing depth left₀ level₀ left level = Counting opening closing depth left level

@@ -1,9 +1,9 @@
--- `leap::next_level` meets its contract: an opening bracket is one more, a closing one is one less. Assumes nothing.
+-- `brackets::next_level` meets its contract: an opening bracket is one more, a closing one is one less. Assumes nothing.
 use borrow.Author.Needs.{needs}
 use mathlib.Core.Path.{sym, _∙_}
-use Rattle.leap.proofs.Words.{opens-one, closes-one}
-use Rattle.leap.proofs.next_level.Statement.{statement}
-use Rattle.leap.proofs.next_level.Tie as tie
+use Rattle.brackets.proofs.Words.{opens-one, closes-one}
+use Rattle.brackets.proofs.next_level.Statement.{statement}
+use Rattle.brackets.proofs.next_level.Tie as tie
 
 has-requires : tie.Need-has-requires
 has-requires c κs = search needs

@@ -12,9 +12,9 @@ use borrow.Author.Tests.{eq-eqb, ne-eqb}
 use Rattle.bits.specs.Bits.{bit, digit, Lowest}
 use Rattle.bits.specs.Laws.{lt-or-ge, bit-or, bit-xor, bit-zero, bit-alone, number-is, bit-ext, countOn, ones-number}
 use Rattle.bits.specs.Truth.{xor-false, neither, or-second}
-use Rattle.leap.specs.Brackets.{afterPlace, depthAt}
-use Rattle.leap.specs.BracketLaws.{after-le, depth-quiet-to}
-use Rattle.leap.specs.Passing.{Cleared, NotBoth, FindsClosing}
+use Rattle.brackets.specs.Depth.{afterPlace, depthAt}
+use Rattle.brackets.specs.DepthLaws.{after-le, depth-quiet-to}
+use Rattle.brackets.specs.Closing.{Cleared, NotBoth, FindsClosing}
 
 -- ---- one bit less
 

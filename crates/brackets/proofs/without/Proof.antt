@@ -1,8 +1,8 @@
--- `leap::without` meets its contract: xor with one bit that is on turns it off and leaves the others. Assumes nothing.
+-- `brackets::without` meets its contract: xor with one bit that is on turns it off and leaves the others. Assumes nothing.
 use borrow.Author.Needs.{needs}
-use Rattle.leap.proofs.Words.{cleared}
-use Rattle.leap.proofs.without.Statement.{statement}
-use Rattle.leap.proofs.without.Tie as tie
+use Rattle.brackets.proofs.Words.{cleared}
+use Rattle.brackets.proofs.without.Statement.{statement}
+use Rattle.brackets.proofs.without.Tie as tie
 
 shl-result : tie.Need-shl-result
 shl-result c = search needs

@@ -1,0 +1,3 @@
+pub mod Closing
+pub mod Depth
+pub mod DepthLaws
