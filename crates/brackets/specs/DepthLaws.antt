@@ -1,4 +1,4 @@
--- Laws of open brackets: from a place on with what is open there; where nothing is open or no bracket stands; counted. Assumes nothing.
+-- Laws of open brackets: from a place on with what is open there; where none is open, or no bracket stands; and at a bracket. Assumes nothing.
 use mathlib.Core.Path.{_≡_, refl, sym, ap, ap₂, _∙_}
 use mathlib.Core.Bool.{Bool, true, false}
 use Prim.Native.Nat.{ℕ, zero, suc, _+_, _-_, _<_, _≤_}

@@ -4,7 +4,6 @@ use blocks::Counted;
 use blocks::count;
 use blocks::sort_block;
 use blocks::sort_full;
-ghost use mathlib.Core.Path.{_≡_};
 ghost use mathlib.Core.List.{List};
 ghost use Prim.Native.Nat.{ℕ, _≤_};
 ghost use lib.ListN.{length};
