@@ -6,14 +6,15 @@ use mathlib.Core.Bool.{Bool, true, false}
 use Prim.Native.Nat.{ℕ, _+_, _%_, _^_}
 use lib.ListN.{getD, set}
 use Rattle.automaton.specs.Halves.{endPair}
+use Rattle.pile.specs.FrameDepth.{depthIn}
 use Rattle.pile.specs.Pile.{Pile, kept}
 use Rattle.pile.specs.declared.Standing.{Standing}
 use Rattle.pile.specs.declared.Coming.{Coming}
 
 -- the frames and the marks around a container that is left: those of the topmost frame where its depth is the container's
 pub data Pops (levels held : List ℕ) (f d m : ℕ) : (f′ m′ : ℕ) → Type 0 where
-  other : ((k : ℕ) → f ≡ k + 1 → getD levels k 0 ≡ d → ⊥) → Pops levels held f d m f m
-  topmost : (k : ℕ) → f ≡ k + 1 → getD levels k 0 ≡ d → Pops levels held f d m k (getD held k 0)
+  other : ((k : ℕ) → f ≡ k + 1 → depthIn levels k ≡ d → ⊥) → Pops levels held f d m f m
+  topmost : (k : ℕ) → f ≡ k + 1 → depthIn levels k ≡ d → Pops levels held f d m k (getD held k 0)
 
 -- one item more is counted at depth d; a count that has no room for one more begins anew, which no record comes to
 pub record CountsOn (counts : List ℕ) (d : ℕ) (counts′ : List ℕ) : Type 0 where

@@ -14,8 +14,9 @@ use Rattle.automaton.specs.State.{State, next}
 use Rattle.automaton.specs.Tally.{Tally, raised}
 use Rattle.automaton.specs.Halves.{finish}
 use Rattle.walk.specs.Ahead.{ItemAhead, MoreAhead, ItemsAhead, ValueAhead}
+use Rattle.pile.specs.FrameDepth.{narrowed, depthIn}
 
--- by frame: the depth around the container that it was pushed for, and the marks around it;
+-- by frame: the depth around the container that it was pushed for, in 16 bits, and the marks around it;
 -- by depth: the pair that waits for a container's end, plus one, or 0; its opening bracket; and the position of its item that is ahead or
 -- in which the walk stands
 pub record Pile : Type 0 where
@@ -31,7 +32,7 @@ pile l h w b c = record { levels = l; held = h; waits = w; brackets = b; counts 
 -- a container kept on the pile: the depth d and the marks m around it in the slot after f frames; its pair, its bracket and the position of
 -- its first item at its depth
 abbrev pub kept : Pile → (f d m wait bracket : ℕ) → Pile
-kept z f d m w b = pile (set (z .levels) f d) (set (z .held) f m) (set (z .waits) d w) (set (z .brackets) d b) (set (z .counts) d 0)
+kept z f d m w b = pile (set (z .levels) f (narrowed d)) (set (z .held) f m) (set (z .waits) d w) (set (z .brackets) d b) (set (z .counts) d 0)
 
 -- the position j in the container at depth d
 abbrev pub counted : Pile → (d j : ℕ) → Pile
@@ -66,7 +67,7 @@ kindAt b = kindIf (eqb b 0x7B)
 -- a container whose marks are those around it has no frame; any other has the topmost
 pub data Framed (z : Pile) (o : Open) (f m : ℕ) : Type 0 where
   shared : f ≡ o .frames → m ≡ o .marks → Framed z o f m
-  own : f ≡ o .frames + 1 → getD (z .levels) (o .frames) 0 ≡ o .depth → getD (z .held) (o .frames) 0 ≡ o .marks → Framed z o f m
+  own : f ≡ o .frames + 1 → depthIn (z .levels) (o .frames) ≡ o .depth → getD (z .held) (o .frames) 0 ≡ o .marks → Framed z o f m
 
 -- the pile holds the container o, inside which the depth is d, the frames are f and the marks m
 pub record Level (z : Pile) (o : Open) (d f m : ℕ) : Type 0 where

@@ -13,6 +13,8 @@ use Rattle.query.specs.Steps.{Step}
 use Rattle.json.specs.Verdict.{maxDepth}
 use Rattle.select.specs.Ways.{frameIf}
 use Rattle.automaton.specs.Tally.{Tally}
+use Rattle.pile.specs.FrameDepth.{narrowed, depthIn}
+use Rattle.pile.specs.FrameDepthLaws.{frame-depth, other-frame-depth}
 use Rattle.pile.specs.Pile.{Pile, pile, kept, counted, Sized, Open, Framed, shared, own, Level, ValuePassed, root, item}
 use Rattle.pile.specs.Moves.{Pops, other, topmost}
 
@@ -31,11 +33,11 @@ framed-few (shared e1 e2) h e = omega arith
 framed-few (own e1 e2 e3) h e = omega arith
 
 framed-top : {z : Pile} {o : Open} {d f m : ℕ} (k : ℕ) → f ≡ k + 1 → Framed z o f m
-    → (o .frames ≡ k + 1 → getD (z .levels) k 0 < o .depth) → d ≡ o .depth + 1 → getD (z .levels) k 0 < d
+    → (o .frames ≡ k + 1 → depthIn (z .levels) k < o .depth) → d ≡ o .depth + 1 → depthIn (z .levels) k < d
 framed-top k e (shared e1 e2) h g = omega (arith, h (omega arith))
-framed-top {z} {o} k e (own e1 e2 e3) h g = let j : o .frames ≡ k = omega arith in omega (arith, ap (λ (y : ℕ). getD (z .levels) y 0) j)
+framed-top {z} {o} k e (own e1 e2 e3) h g = let j : o .frames ≡ k = omega arith in omega (arith, ap (depthIn (z .levels)) j)
 
-framed-popped : {z : Pile} {o : Open} {f m f′ m′ : ℕ} → Framed z o f m → ((k : ℕ) → o .frames ≡ k + 1 → getD (z .levels) k 0 < o .depth)
+framed-popped : {z : Pile} {o : Open} {f m f′ m′ : ℕ} → Framed z o f m → ((k : ℕ) → o .frames ≡ k + 1 → depthIn (z .levels) k < o .depth)
     → Pops (z .levels) (z .held) f (o .depth) m f′ m′ → (f′ ≡ o .frames) × (m′ ≡ o .marks)
 framed-popped (shared e1 e2) h (other n) = (e1, e2)
 framed-popped (shared e1 e2) h (topmost k e g) = absurd (omega (arith, h k (omega arith)))
@@ -55,7 +57,7 @@ module _ {x : List Step} {s : List ℕ} {whole : Tally} {z : Pile} where
   passed-few (item o l a p) = framed-few (l .frame) (passed-few p) (l .depth)
 
   -- the depth in the topmost frame is that of an open container
-  passed-top : {i : ℕ} {t : Tally} {d f m : ℕ} (k : ℕ) → f ≡ k + 1 → ValuePassed x s whole z i t d f m → getD (z .levels) k 0 < d
+  passed-top : {i : ℕ} {t : Tally} {d f m : ℕ} (k : ℕ) → f ≡ k + 1 → ValuePassed x s whole z i t d f m → depthIn (z .levels) k < d
   passed-top k e (root h e1 e2 e3) = absurd (omega arith)
   passed-top k e (item o l a p) = framed-top k e (l .frame) (λ g. passed-top k g p) (l .depth)
 
@@ -66,7 +68,7 @@ module _ {x : List Step} {s : List ℕ} {whole : Tally} {z : Pile} where
 
 -- two piles that agree in the first f frames and below depth d hold the same open containers there
 record Agree (z z′ : Pile) (f d : ℕ) : Type 0 where
-  levels : (k : ℕ) → k < f → getD (z′ .levels) k 0 ≡ getD (z .levels) k 0
+  levels : (k : ℕ) → k < f → depthIn (z′ .levels) k ≡ depthIn (z .levels) k
   held : (k : ℕ) → k < f → getD (z′ .held) k 0 ≡ getD (z .held) k 0
   waits : (k : ℕ) → k < d → getD (z′ .waits) k 0 ≡ getD (z .waits) k 0
   brackets : (k : ℕ) → k < d → getD (z′ .brackets) k 0 ≡ getD (z .brackets) k 0
@@ -105,14 +107,14 @@ module _ {z z′ : Pile} {f d : ℕ} (same : Agree z z′ f d) where
 kept-agrees : (z : Pile) (f d m w b : ℕ) → Agree z (kept z f d m w b) f d
 kept-agrees z f d m w b =
     record {
-      levels = λ k h. getD-set-other (z .levels) f k d 0 (λ e. omega arith);
+      levels = λ k h. other-frame-depth (z .levels) f d k (λ e. omega arith);
       held = λ k h. getD-set-other (z .held) f k m 0 (λ e. omega arith);
       waits = λ k h. getD-set-other (z .waits) d k w 0 (λ e. omega arith);
       brackets = λ k h. getD-set-other (z .brackets) d k b 0 (λ e. omega arith);
       counts = λ k h. getD-set-other (z .counts) d k 0 0 (λ e. omega arith);
       sized = λ h.
           record {
-            levels = length-set (z .levels) f d ∙ h .levels;
+            levels = length-set (z .levels) f (narrowed d) ∙ h .levels;
             held = length-set (z .held) f m ∙ h .held;
             waits = length-set (z .waits) d w ∙ h .waits;
             brackets = length-set (z .brackets) d b ∙ h .brackets;
@@ -186,13 +188,14 @@ module _ (z : Pile) (o : Open) where
   abbrev withOpen : Pile
   withOpen = kept z (o .frames) (o .depth) (o .marks) (o .wait) (o .bracket)
 
-  framed-new : (m : ℕ) → o .frames < length (z .levels) → o .frames < length (z .held) → Framed withOpen o (frameIf (eqb (o .marks) m) (o .frames)) m
+  framed-new : (m : ℕ) → o .frames < length (z .levels) → o .frames < length (z .held) → o .depth ≤ maxDepth
+      → Framed withOpen o (frameIf (eqb (o .marks) m) (o .frames)) m
   unfolding frameIf
-  framed-new m h g = go (eqb (o .marks) m) refl
+  framed-new m h g y = go (eqb (o .marks) m) refl
     where
-      go : (y : Bool) → eqb (o .marks) m ≡ y → Framed withOpen o (frameIf y (o .frames)) m
+      go : (b : Bool) → eqb (o .marks) m ≡ b → Framed withOpen o (frameIf b (o .frames)) m
       go true e = shared refl (sym (eqb-true (o .marks) m e))
-      go false e = own refl (getD-set-same (z .levels) (o .frames) (o .depth) 0 h) (getD-set-same (z .held) (o .frames) (o .marks) 0 g)
+      go false e = own refl (frame-depth (z .levels) (o .frames) (o .depth) h y) (getD-set-same (z .held) (o .frames) (o .marks) 0 g)
 
   pub level-new : (f m : ℕ) → Sized z → o .count ≡ 0 → o .frames ≤ o .depth → o .depth + 1 + o .room ≤ maxDepth
       → f ≡ o .state .frames → m ≡ o .state .marks → f ≡ frameIf (eqb (o .marks) m) (o .frames) → Level withOpen o (o .depth + 1) f m
@@ -205,5 +208,5 @@ module _ (z : Pile) (o : Open) where
         wait = getD-set-same (z .waits) (o .depth) (o .wait) 0 (omega (arith, y .waits));
         bracket = getD-set-same (z .brackets) (o .depth) (o .bracket) 0 (omega (arith, y .brackets));
         count = getD-set-same (z .counts) (o .depth) 0 0 (omega (arith, y .counts)) ∙ sym e0;
-        frame = rw e3 (framed-new m (omega (arith, y .levels)) (omega (arith, y .held)));
+        frame = rw e3 (framed-new m (omega (arith, y .levels)) (omega (arith, y .held)) (omega arith));
       }

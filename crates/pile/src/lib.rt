@@ -5,6 +5,7 @@ ghost use mathlib.Core.Path.{_≡_};
 ghost use Prim.Native.Nat.{_≤_, _<_};
 ghost use lib.ListN.{set};
 ghost use Rattle.json.specs.Verdict.{maxBytes, maxDepth};
+ghost use Rattle.pile.specs.FrameDepth.{narrowed, widened};
 ghost use Rattle.pile.specs.Pile.{pile};
 ghost use Rattle.pile.specs.Moves.{Pops, CountsOn, Lost, PassedTo, EnteredAt, Skipped};
 
@@ -35,19 +36,34 @@ pub struct Around {
     pub marks: u16,
 }
 
+// A depth in 16 bits, as a frame holds it. Every depth of a record comes back from `widen_depth` unchanged.
+fn narrow_depth(depth: usize) -> u16
+    requires { ⌜ depth ≤ maxDepth ⌝ }
+    ensures { λ r. ⌜ r ≡ narrowed depth ⌝ }
+{
+    depth as u16
+}
+
+// The depth that a frame holds in 16 bits.
+fn widen_depth(level: u16) -> usize
+    ensures { λ r. ⌜ r ≡ widened level ⌝ }
+{
+    level as usize
+}
+
 // Keeps the depth and the marks around a container in the slot after the topmost frame. The slot counts once there is one frame more.
-pub fn push_frame(
+fn push_frame(
     levels: &mut [u16; MAX_DEPTH],
     held: &mut [u16; MAX_DEPTH],
     frames: usize,
     depth: usize,
     marks: u16,
 )
-    requires { ⌜ (frames < maxDepth) × (depth < maxDepth) ⌝ }
-    ensures { λ _. ⌜ now (levels .exit) ≡ set (now (levels .entry)) frames depth ⌝ }
+    requires { ⌜ (frames < maxDepth) × (depth ≤ maxDepth) ⌝ }
+    ensures { λ _. ⌜ now (levels .exit) ≡ set (now (levels .entry)) frames (narrowed depth) ⌝ }
     ensures { λ _. ⌜ now (held .exit) ≡ set (now (held .entry)) frames marks ⌝ }
 {
-    levels[frames] = depth as u16;
+    levels[frames] = narrow_depth(depth);
     held[frames] = marks;
 }
 
@@ -66,7 +82,7 @@ pub fn pop_frame(
         return Around { frames, marks };
     }
     let top = frames - 1;
-    let level = wide(levels[top]);
+    let level = widen_depth(levels[top]);
     if level != depth {
         return Around { frames, marks };
     }
@@ -102,12 +118,6 @@ pub fn count_item(counts: &mut [u32; MAX_DEPTH], depth: usize)
     ensures { λ _. ⌜ CountsOn (now (counts .entry)) depth (now (counts .exit)) ⌝ }
 {
     counts[depth] = std::num::wrapping_add_u32(counts[depth], 1);
-}
-
-fn wide(x: u16) -> usize
-    ensures { λ r. ⌜ r ≡ x ⌝ }
-{
-    x as usize
 }
 
 // The end of the walk at bytes that no tree explains.

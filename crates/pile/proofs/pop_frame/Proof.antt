@@ -11,17 +11,17 @@ returns c = pops-none (c .if1 .taken)
 sub-top : tie.Need-sub-top
 sub-top c = search needs
 
-mul-wide : tie.Need-mul-wide
-mul-wide c = search needs
+mul-widen-depth : tie.Need-mul-widen-depth
+mul-widen-depth c = search needs
 
-element-copy-out-wide : tie.Need-element-copy-out-wide
-element-copy-out-wide c = search needs
+element-copy-out-widen-depth : tie.Need-element-copy-out-widen-depth
+element-copy-out-widen-depth c = search needs
 
-wide-requires : tie.Need-wide-requires
-wide-requires c κs = search needs
+widen-depth-requires : tie.Need-widen-depth-requires
+widen-depth-requires c κs = search needs
 
 returns-2 : tie.Need-returns-2
-returns-2 c = pops-other (λ e. c .if2 .taken (c .before .wide .ensures ∙ e))
+returns-2 c = pops-other (λ e. c .if2 .taken (c .before .widen-depth .ensures ∙ e))
 
 mul-around : tie.Need-mul-around
 mul-around c = search needs
@@ -30,7 +30,7 @@ element-copy-out-around : tie.Need-element-copy-out-around
 element-copy-out-around c = search needs
 
 returns-3 : tie.Need-returns-3
-returns-3 c = pops-topmost (c .before .before .before .before .if1 .left) (sym (c .before .before .wide .ensures) ∙ c .before .if2 .left)
+returns-3 c = pops-topmost (c .before .before .before .before .if1 .left) (sym (c .before .before .widen-depth .ensures) ∙ c .before .if2 .left)
 
 pub pop-frame-spec : {M : Type 1} → statement M
 pop-frame-spec =
@@ -38,9 +38,9 @@ pop-frame-spec =
     (tie.spec
     returns
     sub-top
-    mul-wide
-    element-copy-out-wide
-    wide-requires
+    mul-widen-depth
+    element-copy-out-widen-depth
+    widen-depth-requires
     returns-2
     mul-around
     element-copy-out-around
