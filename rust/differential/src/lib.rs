@@ -9,7 +9,9 @@ mod runs;
 pub use compare::{Comparison, Counts, Mismatch};
 pub use exports::Linked;
 pub use program::{picklist, Inputs};
-pub use runs::{blocks, deep, long, random, samples, short, DeepCall, DEEP_CALLS, SMALL_STACK};
+pub use runs::{
+    blocks, deep, frames, long, random, samples, short, DeepCall, DEEP_CALLS, SMALL_STACK,
+};
 
 use oracle::{Answer, Value, Words};
 

@@ -1,5 +1,5 @@
-//! The runs: random cases, short inputs, blocks, records at the limit of length, and nesting at its
-//! limit on a small stack.
+//! The runs: random cases, short inputs, blocks, records at the limit of length, frames at every depth,
+//! and nesting at its limit on a small stack.
 
 use crate::compare::{shown, shown_outcome};
 use crate::{Comparison, Engine, Independent, Mismatch};
@@ -145,6 +145,29 @@ fn long_records(length: usize) -> Vec<Vec<u8>> {
         filled(b"[", b'[', b""),
         filled(b"", b' ', b""),
     ]
+}
+
+/// A frame at every depth that one can have, 1 to 511, and a frame 256 levels above a container that
+/// has none: a walk that takes a frame for another container's goes on with the wrong marks, and takes
+/// the `b` behind the container.
+pub fn frames(comparison: &mut Comparison) -> Result<(), Mismatch> {
+    let mut random = Random::new(0);
+    for above in 0..=MAX_LEVELS - 2 {
+        let record = nested(above, r#"{"a":{"b":7},"b":8}"#);
+        comparison.lists(&mut random, b"$..a.b", record.as_bytes())?;
+    }
+    // The frame is that of the outermost array in the value of `a`; the container is that of `x`.
+    let below = nested(255, r#"{"x":[7],"b":8}"#);
+    for above in 0..=MAX_LEVELS - 259 {
+        let record = nested(above, &format!(r#"{{"a":[{below}]}}"#));
+        comparison.lists(&mut random, b"$..a.b", record.as_bytes())?;
+    }
+    Ok(())
+}
+
+/// A value in so many arrays.
+fn nested(arrays: usize, value: &str) -> String {
+    format!("{}{value}{}", "[".repeat(arrays), "]".repeat(arrays))
 }
 
 /// A stack on which every call has to do at 512 levels of nesting.

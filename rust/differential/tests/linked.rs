@@ -1,8 +1,8 @@
 //! The calls that are linked in, with a fixed seed and a bounded number of cases.
 
 use differential::{
-    blocks, deep, long, random, samples, short, Comparison, Counts, Linked, Mismatch, DEEP_CALLS,
-    SMALL_STACK,
+    blocks, deep, frames, long, random, samples, short, Comparison, Counts, Linked, Mismatch,
+    DEEP_CALLS, SMALL_STACK,
 };
 use std::ptr::{null, null_mut, NonNull};
 use woodcrock::sys::{
@@ -53,6 +53,12 @@ fn records_at_the_limit_of_length() {
     let counts = compared(long);
     assert!([0, 2, 4, 5, 6].iter().all(|&ground: &usize| counts.lists[ground] > 0));
     assert!([0, 4, 5, 6, 8].iter().all(|&ground: &usize| counts.finds[ground] > 0));
+}
+
+#[test]
+fn frames_at_every_depth() {
+    let counts = compared(frames);
+    assert!(counts.lists[0] > 2_000 && counts.highest_peak == 2);
 }
 
 #[test]

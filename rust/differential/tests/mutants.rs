@@ -1,7 +1,7 @@
 //! The comparison has to notice wrong engines: each one here is the independent implementation with
 //! one fault, and each fault has to be found within the number of cases that the tests run.
 
-use differential::{blocks, deep, long, random, Comparison, DeepCall, Engine, Mismatch};
+use differential::{blocks, deep, frames, long, random, Comparison, DeepCall, Engine, Mismatch};
 use oracle::{Answer, Node, Refusal, Selector, Step, Tree, Value, Words, MAX_POSITION};
 
 const CASES: u64 = 10_000;
@@ -528,6 +528,81 @@ fn faults_of_a_jump_by_blocks() {
     for jumping in wrong {
         found_in("list_jumping", Mutant { jumping, ..RIGHT });
     }
+}
+
+/// The marks of an item by those of the container around it, and whether it is picked out.
+fn advance(steps: &[Step], record: &[u8], marks: u32, node: &Node) -> (u32, bool) {
+    let (mut next, mut picked) = (0, false);
+    for (i, step) in steps.iter().enumerate().filter(|(i, _)| marks >> i & 1 == 1) {
+        if step.deep {
+            next |= 1 << i;
+        }
+        if oracle::takes(step, record, node) {
+            next |= 1 << (i + 1);
+            picked = picked || i + 1 == steps.len();
+        }
+    }
+    (next & ((1 << steps.len()) - 1), picked)
+}
+
+/// A walk over a pile of frames, each of which holds the depth and the marks around its container: the
+/// depth by `hold`, and compared with what `compare` makes of the depth of a container that is left.
+fn by_frames(
+    hold: fn(usize) -> usize,
+    compare: fn(usize) -> usize,
+    query: &[u8],
+    record: &[u8],
+    list: &mut [u32],
+) -> Answer {
+    with_nodes(query, record, list, |tree, steps, pairs| {
+        if steps.is_empty() {
+            return pairs;
+        }
+        let (mut marks, mut picks) = (1, Vec::new());
+        // The ends of the open containers, and the frames; the innermost last.
+        let (mut open, mut pile) = (Vec::new(), Vec::new());
+        for node in &tree.nodes {
+            while open.last().is_some_and(|&end| end <= node.start) {
+                open.pop();
+                if let Some(&(depth, around)) = pile.last() {
+                    if depth == compare(open.len()) {
+                        marks = around;
+                        pile.pop();
+                    }
+                }
+            }
+            let (inner, picked) = match node.parent {
+                Some(_) => advance(steps, record, marks, node),
+                None => (marks, false),
+            };
+            if picked {
+                picks.push((node.start, node.end));
+            }
+            if node.kind.is_container() {
+                if inner != marks {
+                    pile.push((hold(open.len()), marks));
+                }
+                marks = inner;
+                open.push(node.end);
+            }
+        }
+        picks
+    })
+}
+
+#[test]
+fn a_depth_of_a_frame_in_eight_bits() {
+    let found = |jumping: List| {
+        let mutant = Mutant { jumping, ..RIGHT };
+        frames(&mut Comparison::new(&mutant)).map_err(|mismatch| mismatch.call)
+    };
+    let right: List = |q, r, l| by_frames(|depth| depth, |depth| depth, q, r, l);
+    assert_eq!(found(right), Ok(()));
+    assert!(compare(&Mutant { jumping: right, ..RIGHT }).is_ok());
+    // Held in eight bits.
+    assert_eq!(found(|q, r, l| by_frames(|d| d % 256, |d| d, q, r, l)), Err("list_jumping"));
+    // Held and compared in eight bits.
+    assert_eq!(found(|q, r, l| by_frames(|d| d % 256, |d| d % 256, q, r, l)), Err("list_jumping"));
 }
 
 #[test]
