@@ -156,7 +156,8 @@ pub fn frames(comparison: &mut Comparison) -> Result<(), Mismatch> {
         let record = nested(above, r#"{"a":{"b":7},"b":8}"#);
         comparison.lists(&mut random, b"$..a.b", record.as_bytes())?;
     }
-    // The frame is that of the outermost array in the value of `a`; the container is that of `x`.
+    // 259 levels: the frame is that of the outermost array in the value of `a`, the container that
+    // of `x`.
     let below = nested(255, r#"{"x":[7],"b":8}"#);
     for above in 0..=MAX_LEVELS - 259 {
         let record = nested(above, &format!(r#"{{"a":[{below}]}}"#));
