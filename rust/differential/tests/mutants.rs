@@ -560,15 +560,12 @@ fn by_frames(
         }
         let (mut marks, mut picks) = (1, Vec::new());
         // The ends of the open containers, and the frames; the innermost last.
-        let (mut open, mut pile) = (Vec::new(), Vec::new());
+        let (mut open, mut pile): (_, Vec<(usize, u32)>) = (Vec::new(), Vec::new());
         for node in &tree.nodes {
             while open.last().is_some_and(|&end| end <= node.start) {
                 open.pop();
-                if let Some(&(depth, around)) = pile.last() {
-                    if depth == compare(open.len()) {
-                        marks = around;
-                        pile.pop();
-                    }
+                if pile.last().is_some_and(|&(depth, _)| depth == compare(open.len())) {
+                    (_, marks) = pile.pop().unwrap();
                 }
             }
             let (inner, picked) = match node.parent {
