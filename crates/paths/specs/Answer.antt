@@ -13,7 +13,7 @@ use Rattle.select.specs.Visits.{Visit}
 use Rattle.answers.specs.Lister.{orElse}
 use Rattle.answers.specs.Finder.{findVerdict}
 use Rattle.paths.specs.Rendered.{pathText}
-use Rattle.paths.specs.Trails.{Link, named, placed, labelOf, Trail, trailsOf}
+use Rattle.paths.specs.Trails.{Link, named, placed, linkLabel, Trail, trailsOf}
 
 -- the trail of the node that begins at the offset, if one does
 unfoldable pub trailAmong : List (Visit Trail) → ℕ → Option Trail
@@ -31,8 +31,8 @@ trailIn r at = trailAt (treeOf r) at
 
 -- the path of the node with this trail
 unfoldable pub pathOf : Trail → List ℕ
-unfolding pathText labelOf
-pathOf u = pathText (map labelOf (reverse u))
+unfolding pathText linkLabel
+pathOf u = pathText (map linkLabel (reverse u))
 
 -- some half of a surrogate pair is among these
 unfoldable pub hasHalf : List ℕ → Bool

@@ -126,15 +126,15 @@ charPoint (escaped x) = escapablePoint x
 charPoint (control x) = controlPoint x
 
 -- what a selector stands for: a member by its name's code points, or an element by its position
-unfoldable pub labelOf : Selector → Label
+unfoldable pub selectorLabel : Selector → Label
 unfolding charPoint positionOf
-labelOf (name cs) = member (map charPoint cs)
-labelOf (index p) = element (positionOf p)
+selectorLabel (name cs) = member (map charPoint cs)
+selectorLabel (index p) = element (positionOf p)
 
 -- s is the normalized path that is made of these labels, in their order
 pub record NormalizedPath (labels : List Label) (s : List ℕ) : Type 0 where
   pub path : Path
-  pub labels-are : map labelOf path ≡ labels
+  pub labels-are : map selectorLabel path ≡ labels
   pub written : text path ≡ s
 
 -- the labels on the way from p down to n

@@ -12,9 +12,9 @@ pub data Link : Type 0 where
   named : (points : List ℕ) (quote : ℕ) → Link
   placed : (position : ℕ) → Link
 
-unfoldable pub labelOf : Link → Label
-labelOf (named k q) = member k
-labelOf (placed j) = element j
+unfoldable pub linkLabel : Link → Label
+linkLabel (named k q) = member k
+linkLabel (placed j) = element j
 
 -- the links from the root down to a node, the last one first
 abbrev pub Trail : Type 0
