@@ -1,2 +1,3 @@
 pub mod DecodedLaws
 pub mod Escapes
+pub mod LeftLaws

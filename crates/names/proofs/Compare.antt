@@ -14,7 +14,7 @@ use Rattle.encoding.specs.UnescapeLaws.{unescaped-nil}
 use Rattle.escapes.specs.Escapes.{EscapeAt}
 use Rattle.encoding.specs.Points.{utf8}
 use Rattle.names.specs.Names.{stands, After}
-use Rattle.names.proofs.Left.{next, nothing, plain-left, escape-left}
+use Rattle.escapes.specs.LeftLaws.{next, nothing, plain-left, escape-left}
 
 module _ (names : List ℕ) (i to : ℕ) where
   missed : (s : List ℕ) → stands names (to + 1) to s ≡ false

@@ -1,4 +1,3 @@
 pub mod Agree
 pub mod Compare
-pub mod Left
 pub mod Write

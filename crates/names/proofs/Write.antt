@@ -12,7 +12,7 @@ use Rattle.escapes.specs.DecodedLaws.{Small}
 use Rattle.escapes.specs.Escapes.{EscapeAt}
 use Rattle.names.specs.Names.{Written}
 use Rattle.names.specs.WrittenLaws.{written-none, written-both, written-length}
-use Rattle.names.proofs.Left.{nothing, decoded-within, plain-left, escape-left}
+use Rattle.escapes.specs.LeftLaws.{nothing, decoded-within, plain-left, escape-left}
 
 -- of the name from `from` to `to`, what stands before j is written decoded, up to i
 pub record Writing (before q : List ℕ) (from to : ℕ) (now : List ℕ) (i j : ℕ) : Type 0 where

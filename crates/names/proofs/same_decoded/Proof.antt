@@ -3,7 +3,7 @@ use mathlib.Core.Path.{sym, subst₂}
 use mathlib.Core.Logic.{⊎-elim}
 use Prim.Native.Nat.{ℕ, _-_, _<_}
 use native.Mathlib.Omega.{arith}
-use Rattle.names.proofs.Left.{size-bounds}
+use Rattle.escapes.specs.LeftLaws.{size-bounds}
 use Rattle.names.proofs.Compare.{Going, Still, still-start, still-byte, still-escape, still-end, differs}
 use borrow.Author.Needs.{needs}
 use Rattle.names.proofs.same_decoded.Statement.{statement}

@@ -1,7 +1,7 @@
 -- A turn writes one byte of the query's name, or what one escape stands for. Assumes nothing.
 use Prim.Native.Nat.{_-_}
 use native.Mathlib.Omega.{arith}
-use Rattle.names.proofs.Left.{size-bounds}
+use Rattle.escapes.specs.LeftLaws.{size-bounds}
 use Rattle.names.proofs.Write.{Writing, writing-start, writing-within, writing-length, writing-end}
 use Rattle.names.proofs.Write.{byte-room, writing-byte, point-room, writing-escape}
 use borrow.Author.Needs.{needs}
