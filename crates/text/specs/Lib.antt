@@ -3,3 +3,4 @@ pub mod DecimalLaws
 pub mod Put
 pub mod PutLaws
 pub mod DigitLaws
+pub mod WritingLaws

@@ -11,7 +11,7 @@ const ZERO: u8 = b'0';
 const BASE: u32 = 10;
 
 // Writes one byte.
-fn write_byte(out: &mut [u8], at: usize, byte: u8) -> usize
+pub fn write_byte(out: &mut [u8], at: usize, byte: u8) -> usize
     requires { ⌜ Room (byte ∷ []) at (now out) ⌝ }
     ensures { λ r. ⌜ Written (byte ∷ []) at (now (out .entry)) (now (out .exit)) r ⌝ }
 {
@@ -33,7 +33,7 @@ pub fn write_word(out: &mut [u8], at: usize, word: &[u8]) -> usize
 }
 
 // How many digits a number has in decimal.
-fn digit_count(number: u32) -> usize
+pub fn digit_count(number: u32) -> usize
     ensures { λ r. ⌜ r ≡ length (decimal number) ⌝ }
 {
     let mut count: usize = 1;
