@@ -34,10 +34,14 @@ unfoldable pub pathOf : Trail → List ℕ
 unfolding pathText linkLabel
 pathOf u = pathText (map linkLabel (reverse u))
 
--- some half of a surrogate pair is among these
+-- half of a surrogate pair
+abbrev pub isHalf : ℕ → Bool
+isHalf n = leb 0xD800 n && leb n 0xDFFF
+
+-- some half is among these
 unfoldable pub hasHalf : List ℕ → Bool
 hasHalf [] = false
-hasHalf (n ∷ ns) = (leb 0xD800 n && leb n 0xDFFF) || hasHalf ns
+hasHalf (n ∷ ns) = isHalf n || hasHalf ns
 
 -- the opening quote of the outermost name with half of a pair, if there is one
 unfoldable pub orHalf : Option ℕ → Link → Option ℕ
