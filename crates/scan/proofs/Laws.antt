@@ -280,6 +280,7 @@ enters-element s a b h =
       name-order = omega arith;
       name-within = omega arith;
       exact = λ w key rest e f. (omega (arith, h .exact w rest e f), tt);
+      quote = λ w key rest e f. tt;
       bare = λ _. U.none;
     }
 
@@ -361,6 +362,7 @@ enters-nothing s a v h l none =
       name-order = omega arith;
       name-within = omega arith;
       exact = λ w key rest e f. absurd (none w key rest e f);
+      quote = λ w key rest e f. absurd (none w key rest e f);
       bare = λ _. U.none;
     }
 
@@ -388,6 +390,7 @@ module _ (s : List ℕ) (a b : ℕ) (first : EndsBlanks s a b) where
           name-within = omega (arith, name .ends .within);
           exact = λ w key rest d f.
               (value-is s a b first w key rest d f e (name .ends) c second v third, name-bytes s a b first w key rest d f e (name .ends));
+          quote = λ w key rest d f. ap (λ (i : ℕ). i + 1) (start-is s a b first w key rest d f);
           bare = name .bare;
         }
 

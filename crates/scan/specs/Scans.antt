@@ -54,6 +54,11 @@ abbrev pub NameAt : (k : Kind) → Key k → List ℕ → (x y : ℕ) → Type 0
 NameAt array key s x y = Unit {0}
 NameAt object key s x y = slice x y s ≡ putChars (key .chars) []
 
+-- it begins just after its opening quote, which stands at q
+abbrev pub QuoteAt : (k : Kind) → (q x : ℕ) → Type 0
+QuoteAt array q x = Unit {0}
+QuoteAt object q x = x ≡ q + 1
+
 -- the first byte of the value of an item that stands at a, where its name's bytes are, and whether a backslash may be among these
 pub record EntersItem (s : List ℕ) (a : ℕ) (isObject : Bool) (v x y : ℕ) (escaped : Bool) : Type 0 where
   pub onward : a ≤ v
@@ -63,4 +68,6 @@ pub record EntersItem (s : List ℕ) (a : ℕ) (isObject : Bool) (v x y : ℕ) (
   pub exact : (w : Blanks) (key : Key (kindIf isObject)) (rest : List ℕ)
       → drop a s ≡ putBlanks w (putKey (kindIf isObject) key rest) → solid rest ≡ true
       → (v ≡ a + length w + keySize (kindIf isObject) key) × NameAt (kindIf isObject) key s x y
+  pub quote : (w : Blanks) (key : Key (kindIf isObject)) (rest : List ℕ)
+      → drop a s ≡ putBlanks w (putKey (kindIf isObject) key rest) → solid rest ≡ true → QuoteAt (kindIf isObject) (a + length w) x
   pub bare : escaped ≡ false → NoBackslash (slice x y s)

@@ -1,25 +1,23 @@
 -- A value that begins at the offset is the one that is looked for. One behind the offset has no such value, nor has another scalar; in a
 -- container before the offset it is among the items. Assumes nothing.
-use mathlib.Core.Path.{_≡_, sym, ap, subst, _∙_}
+use mathlib.Core.Path.{_≡_, sym, ap, _∙_}
 use mathlib.Core.List.{List, []}
 use Prim.Native.Nat.{ℕ, _+_, _-_, _≤_, _<_}
-use native.Mathlib.Numerals.{add-one}
 use native.Mathlib.Omega.{arith}
 use lib.Dec.{eqb}
 use lib.ListN.{length, drop, getD}
 use Rattle.encoding.specs.Bytes.{putBlanks}
 use Rattle.encoding.specs.Class.{classOf}
-use Rattle.json.specs.Grammar.{Kind, Value, Items, opening, putValue, putItems, nesting, itemsNesting, Tree, text}
+use Rattle.json.specs.Grammar.{Value, putValue, nesting, Tree, text}
 use Rattle.json.specs.Verdict.{maxDepth}
 use Rattle.select.specs.Nodes.{size, root}
-use Rattle.select.specs.Visits.{Way, step, visits, itemsVisits, nodeVisits, nodes}
-use Rattle.scan.specs.Places.{head-of, past-blanks}
-use Rattle.scan.specs.Scans.{kindIf, EndsBlanks, EndsScalar}
+use Rattle.select.specs.Visits.{Way, step, visits, nodeVisits, nodes}
+use Rattle.scan.specs.Places.{past-blanks}
+use Rattle.scan.specs.Scans.{EndsBlanks, EndsScalar}
 use Rattle.scan.specs.ShapeLaws.{solid-value, stopped-end}
-use Rattle.walk.specs.ValueLaws.{opening-is}
 use Rattle.seek.specs.Seeks.{endOrZero, EndsValue, Seeks, SeeksValue, SeeksInside, FindsFrom}
 use Rattle.seek.specs.EndLaws.{value-behind, value-there, scalar-other, container-other}
-use Rattle.seek.proofs.Values.{IsContainer, holds, value-inside, is-container, is-scalar}
+use Rattle.seek.proofs.Values.{IsContainer, holds, value-inside, is-container, is-scalar, Opens, opens, opens-items}
 
 module _ (s : List ℕ) (o a n : ℕ) where
   pub seeks-there : (e : ℕ) → a ≡ o → EndsValue s a e → SeeksValue s o a n e e
@@ -79,36 +77,33 @@ module _ (s : List ℕ) (o a n : ℕ) where
       record {
         onward = omega (arith, x .onward);
         within = x .within;
-        exact = λ v rest way d q l. go v rest way (is-container s rest a f v d) d l;
+        exact = λ v rest way d q l. go v rest way (opens-items s rest a f v d) l;
       }
     where
-      Found : (k : Kind) → Type 0
-      Found k = (is : Items k) (rest : List ℕ) (way : Way) → drop (a + 1) s ≡ putItems is rest → itemsNesting is ≤ n - 1
-          → Seeks (itemsVisits step is way (a + 1)) o (a + 1 + length (putItems is [])) e r
-
-      go : (v : Value) (rest : List ℕ) (way : Way) → IsContainer v → drop a s ≡ putValue v rest → nesting v ≤ n
-          → Seeks (visits step v way a) o (a + size v) e r
-      go _ rest way (holds k is) d l =
-          let y = head-of s a (opening k) (putItems is rest) d in
-          let p : kindIf (eqb (getD s a 0) 0x7B) ≡ k = ap (λ (b : ℕ). kindIf (eqb b 0x7B)) (y .byte-is) ∙ opening-is k in
-          let u = subst Found p (x .exact) is rest way (ap (λ (i : ℕ). drop i s) (add-one a) ∙ y .rest-is) (omega arith) in
+      go : (v : Value) (rest : List ℕ) (way : Way) → Opens s rest a v → nesting v ≤ n → Seeks (visits step v way a) o (a + size v) e r
+      go _ rest way (opens is here) l =
+          let u = x .exact is rest way here (omega arith) in
           record {
-            end-is = u .end-is ∙ sym (container-other o k is way a h);
+            end-is = u .end-is ∙ sym (container-other o _ is way a h);
             place-is = λ m. omega (arith, u .place-is m);
           }
 
--- from the root on
+-- the root stands behind the first blanks
+pub root-here : (s : List ℕ) (a : ℕ) → EndsBlanks s 0 a → (t : Tree) → text t ≡ s
+    → (a ≡ length (t .before)) × (drop a s ≡ putValue (t .value) (putBlanks (t .after) []))
+unfolding text
+root-here s a b t p =
+    let u = putValue (t .value) (putBlanks (t .after) []) in
+    let p′ : drop 0 s ≡ putBlanks (t .before) u = sym p in
+    let x = b .exact (t .before) u p′ (solid-value (t .value) (putBlanks (t .after) [])) in
+    (omega arith, ap (λ (i : ℕ). drop i s) x ∙ past-blanks s 0 (t .before) u p′)
+
 pub seeks-root : (s : List ℕ) (o a e r : ℕ) → EndsBlanks s 0 a → SeeksValue s o a maxDepth e r → FindsFrom s o e
-unfolding text nodes nodeVisits root
+unfolding nodes nodeVisits root
 seeks-root s o a e r b h = record { exact = go }
   where
     go : (t : Tree) → text t ≡ s → nesting (t .value) ≤ maxDepth → e ≡ endOrZero (nodes t) o
     go t p l =
-        let u = putBlanks (t .after) [] in
-        let p′ : drop 0 s ≡ putBlanks (t .before) (putValue (t .value) u) = sym p in
-        let x : a ≡ length (t .before) = omega (arith, b .exact (t .before) (putValue (t .value) u) p′ (solid-value (t .value) u)) in
-        let here : drop a s ≡ putValue (t .value) u =
-        ap (λ (i : ℕ). drop i s) (b .exact (t .before) (putValue (t .value) u) p′ (solid-value (t .value) u))
-        ∙ past-blanks s 0 (t .before) (putValue (t .value) u) p′ in
-        h .exact (t .value) u [] here (stopped-end (t .after)) l .end-is
-        ∙ ap (λ (i : ℕ). endOrZero (visits step (t .value) [] i) o) x
+        let (place, here) = root-here s a b t p in
+        h .exact (t .value) (putBlanks (t .after) []) [] here (stopped-end (t .after)) l .end-is
+        ∙ ap (λ (i : ℕ). endOrZero (visits step (t .value) [] i) o) place

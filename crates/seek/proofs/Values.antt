@@ -1,9 +1,10 @@
 -- The place after a value: the first byte tells a container from a scalar, and each has its own scanner. Assumes nothing.
-use mathlib.Core.Path.{_≡_, ap, _∙_}
+use mathlib.Core.Path.{_≡_, ap, subst, _∙_}
 use mathlib.Core.List.{List}
 use Prim.Native.Nat.{ℕ, _+_, _≤_, _<_}
 use native.Mathlib.Numerals.{add-one}
 use native.Mathlib.Omega.{arith}
+use lib.Dec.{eqb}
 use lib.ListN.{length, drop, getD, length-drop}
 use Rattle.encoding.specs.Class.{classOf}
 use Rattle.json.specs.Append.{length-value, value-positive}
@@ -11,9 +12,9 @@ use Rattle.json.specs.Grammar as G
 use Rattle.json.specs.Grammar.{Kind, Value, Items, opening, putFrac, putExp, putValue, putItems}
 use Rattle.select.specs.Nodes.{size}
 use Rattle.scan.specs.Places.{head-of}
-use Rattle.scan.specs.Scans.{IsScalar, EndsScalar}
+use Rattle.scan.specs.Scans.{kindIf, IsScalar, EndsScalar}
 use Rattle.leap.specs.Brackets.{Leaves}
-use Rattle.walk.specs.ValueLaws.{opening-class, not-literal, not-number, not-string}
+use Rattle.walk.specs.ValueLaws.{opening-class, opening-is, not-literal, not-number, not-string}
 use Rattle.seek.specs.Seeks.{EndsValue}
 
 pub data IsContainer : Value → Type 0 where
@@ -37,6 +38,21 @@ module _ (s rest : List ℕ) (i : ℕ) where
   is-scalar f (G.number g n x y) e = tt
   is-scalar f (G.string cs) e = tt
   is-scalar f (G.container k is) e = absurd (f (ap classOf (head-of s i (opening k) (putItems is rest) e .byte-is) ∙ opening-class k))
+
+-- the value at i is a container, and what its items are comes behind its opening bracket
+pub data Opens (s rest : List ℕ) (i : ℕ) : Value → Type 0 where
+  opens : (is : Items (kindIf (eqb (getD s i 0) 0x7B))) → drop (i + 1) s ≡ putItems is rest → Opens s rest i (G.container _ is)
+
+pub opens-items : (s rest : List ℕ) (i : ℕ) → classOf (getD s i 0) ≡ 1 → (v : Value) → drop i s ≡ putValue v rest → Opens s rest i v
+unfolding putValue
+opens-items s rest i f v d = go v (is-container s rest i f v d) d
+  where
+    go : (v : Value) → IsContainer v → drop i s ≡ putValue v rest → Opens s rest i v
+    go _ (holds k is) d =
+        let y = head-of s i (opening k) (putItems is rest) d in
+        let p : kindIf (eqb (getD s i 0) 0x7B) ≡ k = ap (λ (b : ℕ). kindIf (eqb b 0x7B)) (y .byte-is) ∙ opening-is k in
+        subst (λ (k : Kind). (is : Items k) → drop (i + 1) s ≡ putItems is rest → Opens s rest i (G.container k is)) p (λ is h. opens is h)
+        is (ap (λ (a : ℕ). drop a s) (add-one i) ∙ y .rest-is)
 
 module _ (s : List ℕ) (i : ℕ) where
   -- no value stands behind the last byte

@@ -1,2 +1,5 @@
+pub mod Slots
 pub mod Seeks
 pub mod EndLaws
+pub mod SlotLaws
+pub mod TrailLaws
