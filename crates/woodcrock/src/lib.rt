@@ -1,4 +1,5 @@
-// Woodcrock: the nodes of a JSON record that a JSONPath query picks out, the end of a value, a value's bytes, and words of bits.
+// Woodcrock: the nodes of a JSON record that a JSONPath query picks out, the end of a value, a value's bytes, the path of a node, and
+// words of bits.
 mod jumping_lister;
 mod plain_lister;
 
@@ -9,4 +10,6 @@ pub use find::find_value;
 pub use find::read_value;
 pub use jumping_lister::list_jumping;
 pub use lister::Answer;
+pub use path::PathWritten;
+pub use path::write_path;
 pub use plain_lister::list_plain;

@@ -1,10 +1,12 @@
 // The calls of Woodcrock for C, each with the whole promise of the call that it makes. `include/woodcrock.h` declares them.
 use woodcrock::Answer;
 use woodcrock::Found;
+use woodcrock::PathWritten;
 use woodcrock::Words;
 ghost use Rattle.answers.specs.Finder.{Finds};
 ghost use Rattle.blocks.specs.Sorted.{Sorted};
 ghost use Rattle.lister.specs.Listed.{Listed};
+ghost use Rattle.paths.specs.Answer.{WritesPath};
 
 // Lists the nodes of the record that the query picks out, by the plain walk.
 #[no_mangle]
@@ -28,6 +30,18 @@ pub extern "C" fn woodcrock_find_value(record: &[u8], offset: usize) -> Found
     ensures { λ r. ⌜ Finds (now («record» .entry)) offset (r .ground) (r .place) (r .end) ⌝ }
 {
     woodcrock::find_value(record, offset)
+}
+
+// Writes the normalized path of the node that begins at the offset.
+#[no_mangle]
+pub extern "C" fn woodcrock_write_path(
+    record: &[u8],
+    offset: usize,
+    buffer: &mut [u8],
+) -> PathWritten
+    ensures { λ r. ⌜ WritesPath (now («record» .entry)) offset (now (buffer .entry)) (now (buffer .exit)) (r .ground) (r .place) (r .length) ⌝ }
+{
+    woodcrock::write_path(record, offset, buffer)
 }
 
 // The words of the block at the front of the rest of a record.
