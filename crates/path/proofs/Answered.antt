@@ -2,14 +2,14 @@
 -- taken the descent finds the node and leaves its trail in the slots; and what the slots are measured and written as is so of the trail's
 -- path. Assumes nothing.
 use mathlib.Core.Path.{_≡_, refl, sym, ap, _∙_}
-use mathlib.Core.List.{List, [], _∷_, _++_}
+use mathlib.Core.List.{List, []}
 use mathlib.Core.Bool.{Bool, true, false}
 use mathlib.Core.Option.{Option, some, none}
 use Prim.Native.Nat.{ℕ, zero, suc, _-_, _≤_, _<_}
 use native.Mathlib.Nat.{zero-add}
 use native.Mathlib.Omega.{arith}
 use borrow.Author.Tests.{le-leb, lt-leb}
-use lib.ListN.{length, drop}
+use lib.ListN.{length}
 use Rattle.encoding.specs.Verdict.{Verdict, taken, refused}
 use Rattle.json.specs.Grammar.{Tree}
 use Rattle.json.specs.Verdict.{maxDepth, recordVerdict}
@@ -20,24 +20,20 @@ use Rattle.answers.specs.ListerIs.{refuses-first}
 use Rattle.answers.specs.Within.{RecordIs}
 use Rattle.answers.specs.WithinLaws.{record-is-taken, record-tree, taken-record}
 use Rattle.text.specs.Put.{put, Room, Written}
-use Rattle.paths.specs.Answer.{trailAmong, trailAt, trailIn, pathOf, firstHalf, halfVerdict, roomVerdict, trailVerdict, pathVerdict, pathIf, pathWritten, WritesPath}
-use Rattle.paths.specs.Trails.{Trail, trailsOf}
+use Rattle.paths.specs.Answer.{trailAmong, trailAt, trailIn, pathOf, firstHalf, halfVerdict, roomVerdict, trailVerdict, pathVerdict}
+use Rattle.paths.specs.Answer.{pathIf, pathWritten, WritesPath}
+use Rattle.paths.specs.Trails.{trailsOf}
 use Rattle.seek.specs.EndLaws.{none-found}
-use Rattle.seek.specs.Seeks.{endOrZero, TracesFrom}
-use Rattle.seek.specs.Slots.{HoldsTrail}
+use Rattle.seek.specs.Seeks.{endOrZero}
+use Rattle.trace.specs.Traces.{TracesFrom}
 use Rattle.validate.specs.Checks.{Answers}
 use Rattle.path.specs.HeldLaws.{held-text, held-half, held-within}
-use Rattle.path.specs.Measured.{labelsFrom, halfFrom, SlotsFrom, Measures}
+use Rattle.path.specs.Measured.{pathFrom, halfFrom, SlotsFrom, Measures}
 use Rattle.path.specs.Reached.{Reaches}
 
 -- the record is taken
 pub answered-record : {s : List ℕ} {g p : ℕ} → Answers (recordVerdict s) g p → g ≡ 0 → (t : Tree) × RecordIs s t
 answered-record {s} h z = taken-record s (sym (h .ground-is) ∙ z)
-
--- the path fits the buffer
-pub path-fits : {s slots : List ℕ} {low : ℕ} {half : Bool} {place size : ℕ} {b : List ℕ} → Measures s slots low half place size → half ≡ false
-    → size ≤ length b → Room (0x24 ∷ labelsFrom s slots low) 0 b
-path-fits m e h = record { fits = omega (arith, m .sized e) }
 
 module _ (s : List ℕ) (o : ℕ) where
   -- a record that is taken
@@ -80,7 +76,7 @@ module _ (s : List ℕ) (o : ℕ) where
 
   -- a node that is found
   module _ {slots : List ℕ} {low : ℕ} (r : Reaches s o slots low) where
-    text-is : 0x24 ∷ labelsFrom s slots low ≡ pathOf (r .trail)
+    text-is : pathFrom s slots low ≡ pathOf (r .trail)
     text-is = held-text (r .holds) (r .many)
 
     half-is : halfFrom s slots low ≡ firstHalf (r .trail)
@@ -124,7 +120,8 @@ module _ (s : List ℕ) (o : ℕ) where
     writes-none ht tr z = finder-refuses (finds-none ht tr z) (omega arith)
 
     module _ {slots : List ℕ} {low : ℕ} (r : Reaches s o slots low) where
-      path-verdict : pathVerdict s o (length b) ≡ orElse (halfVerdict (halfFrom s slots low)) (roomVerdict (length (0x24 ∷ labelsFrom s slots low)) (length b) o)
+      path-verdict :
+          pathVerdict s o (length b) ≡ orElse (halfVerdict (halfFrom s slots low)) (roomVerdict (length (pathFrom s slots low)) (length b) o)
       unfolding pathVerdict orElse trailVerdict
       path-verdict = rw (r .found, r .there, half-is r, ap length (text-is r))
 
@@ -145,15 +142,25 @@ module _ (s : List ℕ) (o : ℕ) where
           writes-too-long h = refuses (room-verdict ∙ rw (lt-leb size (length b) h, roomVerdict)) (omega arith)
 
           -- no ground
-          pub writes-all : size ≤ length b → {a : List ℕ} {n : ℕ} → Written (0x24 ∷ labelsFrom s slots low) 0 b a n → WritesPath s o b a 0 0 n
-          unfolding roomVerdict pathWritten pathIf put
-          writes-all h {a} {n} w =
-              let v : pathVerdict s o (length b) ≡ taken = room-verdict ∙ rw (le-leb size (length b) h, roomVerdict) in
-              let p : pathWritten s o (length b) ≡ 0x24 ∷ labelsFrom s slots low = rw (v, r .there) (sym (text-is r)) in
-              let n-is : n ≡ length (0x24 ∷ labelsFrom s slots low) = w .end-is ∙ zero-add (length (0x24 ∷ labelsFrom s slots low)) in
-              record {
-                ground-is = ap (λ (u : Verdict). u .ground) (sym v);
-                place-is = ap (λ (u : Verdict). u .place) (sym v);
-                size-is = n-is ∙ ap length (sym p);
-                buffer-is = w .after-is ∙ rw (p, n-is, zero-add (length (0x24 ∷ labelsFrom s slots low)));
-              }
+          module _ (h : size ≤ length b) where
+            is-taken : pathVerdict s o (length b) ≡ taken
+            unfolding roomVerdict
+            is-taken = room-verdict ∙ rw (le-leb size (length b) h, roomVerdict)
+
+            is-path : pathWritten s o (length b) ≡ pathFrom s slots low
+            unfolding pathWritten pathIf
+            is-path = rw (is-taken, r .there) (sym (text-is r))
+
+            pub path-fits : Room (pathFrom s slots low) 0 b
+            path-fits = record { fits = omega (arith, m .sized e) }
+
+            pub writes-all : {a : List ℕ} {n : ℕ} → Written (pathFrom s slots low) 0 b a n → WritesPath s o b a 0 0 n
+            unfolding put
+            writes-all {a} {n} w =
+                let all : n ≡ length (pathFrom s slots low) = w .end-is ∙ zero-add (length (pathFrom s slots low)) in
+                record {
+                  ground-is = ap (λ (v : Verdict). v .ground) (sym is-taken);
+                  place-is = ap (λ (v : Verdict). v .place) (sym is-taken);
+                  size-is = all ∙ ap length (sym is-path);
+                  buffer-is = w .after-is ∙ rw (is-path, all, zero-add (length (pathFrom s slots low)));
+                }

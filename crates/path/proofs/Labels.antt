@@ -61,7 +61,8 @@ module _ (s : List ℕ) (x y : ℕ) where
     pub name-within : SlotWithin s x y → (x ≤ y) × (y ≤ length s)
     name-within h = ⊎-elim (λ e. absurd (f e)) (λ n. (n .1, n .2)) h
 
-    pub name-measured : {half : Bool} {n : ℕ} → half ≡ halfEscaped (slice x y s) → n ≡ length escaped → n ≤ 6 * maxBytes → MeasuresLabel s x y half (n + 4)
+    pub name-measured : {half : Bool} {n : ℕ} → half ≡ halfEscaped (slice x y s) → n ≡ length escaped → n ≤ 6 * maxBytes
+        → MeasuresLabel s x y half (n + 4)
     name-measured {half} {n} h d l =
         record {
           half-is = h ∙ sym (name-half s x y (omega arith));

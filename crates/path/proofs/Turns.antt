@@ -1,6 +1,6 @@
 -- The loops over the slots, from the last one down: what is measured and written so far is that of the slots behind. One slot more is one
 -- label more, so a turn keeps it, and at the lowest slot it is the whole path. Assumes nothing.
-use mathlib.Core.Path.{_≡_, refl, sym, ap, _∙_}
+use mathlib.Core.Path.{_≡_, sym, ap, _∙_}
 use mathlib.Core.List.{List, [], _∷_, _++_}
 use mathlib.Core.Bool.{Bool, true, false, true≢false, false≢true}
 use mathlib.Core.Option.{none}
@@ -11,14 +11,14 @@ use lib.ListN.{length, getD, length-append}
 use Rattle.json.specs.Verdict.{maxDepth}
 use Rattle.text.specs.Put.{Room, Written}
 use Rattle.text.specs.PutLaws.{put-none, put-length, room-first, room-after, written-both}
-use Rattle.path.specs.Measured.{maxLabel, MeasuresLabel, labelsFrom, halfFrom, SlotsFrom, Measures}
-use Rattle.path.specs.Slots.{slotText, slotHalf, SlotWithin}
+use Rattle.path.specs.Measured.{maxLabel, MeasuresLabel, labelsFrom, pathFrom, halfFrom, SlotsFrom, Measures}
+use Rattle.path.specs.Slots.{slotText, SlotWithin}
 use Rattle.path.specs.SlotsLaws.{half-quote, text-none, half-none, text-more, half-here, half-not-here, text-grows, half-stays}
 
 -- the slots from i on have been measured, and no name with half of a pair is among them
 pub record MeasuredTo (s slots : List ℕ) (i size : ℕ) : Type 0 where
   pub whole : halfFrom s slots i ≡ none
-  pub sized : size ≡ length (0x24 ∷ labelsFrom s slots i)
+  pub sized : size ≡ length (pathFrom s slots i)
   pub small : size ≤ 1 + (maxDepth - i) * maxLabel
 
 module _ (s slots : List ℕ) where
@@ -94,7 +94,7 @@ module _ (s slots : List ℕ) where
         }
 
     -- behind the `$`
-    module _ {before : List ℕ} (room : Room (0x24 ∷ labelsFrom s slots low) 0 before) where
+    module _ {before : List ℕ} (room : Room (pathFrom s slots low) 0 before) where
       pub root-fits : Room (0x24 ∷ []) 0 before
       root-fits = room-first (0x24 ∷ []) (labelsFrom s slots low) 0 before room
 
@@ -103,8 +103,8 @@ module _ (s slots : List ℕ) where
         labels-fit = room-after (labelsFrom s slots low) root room
 
         module _ {i : ℕ} {after : List ℕ} {end : ℕ} (w : Written (labelsFrom s slots i) at m after end) (e : i ≡ low) where
-          pub written-all : Written (0x24 ∷ labelsFrom s slots low) 0 before after end
+          pub written-all : Written (pathFrom s slots low) 0 before after end
           written-all = written-both root (rw e at w) room
 
           pub length-kept : length after ≡ length before
-          length-kept = ap length (written-all .after-is) ∙ put-length 0 before (0x24 ∷ labelsFrom s slots low) room
+          length-kept = ap length (written-all .after-is) ∙ put-length 0 before (pathFrom s slots low) room

@@ -16,16 +16,16 @@ use Rattle.json.specs.Points.{pointsOf}
 use Rattle.json.specs.Verdict.{maxDepth}
 use Rattle.select.specs.Nodes.{Label}
 use Rattle.text.specs.Decimal.{decimal}
-use Rattle.paths.specs.Answer.{hasHalf, orHalf, firstHalf, pathOf}
+use Rattle.paths.specs.Answer.{orHalf, firstHalf, pathOf}
 use Rattle.paths.specs.Rendered.{putName, putLabel, putLabels, pathText}
 use Rattle.paths.specs.Trails.{Link, linkLabel, Trail}
-use Rattle.path_names.specs.Escaped.{putEscaped, halfEscaped}
+use Rattle.path_names.specs.Escaped.{putEscaped}
 use Rattle.path_names.specs.EscapedLaws.{chars-written, escaped-append, chars-half}
-use Rattle.seek.specs.Slots as held
-use Rattle.seek.specs.Slots.{Slot, name, position, HoldsTrail, more}
-use Rattle.path.specs.Slots.{slotText, slotHalf, SlotWithin, slotsText, slotsHalf, SlotsWithin}
+use Rattle.trace.specs.Slots as held
+use Rattle.trace.specs.Slots.{Slot, name, position, HoldsTrail, more}
+use Rattle.path.specs.Slots.{slotText, slotHalf, SlotWithin, textAt, WithinAt, slotsText, orSlot, slotsHalf, SlotsWithin}
 use Rattle.path.specs.SlotsLaws.{name-text, name-half, position-text, position-half}
-use Rattle.path.specs.Measured.{labelsFrom, halfFrom, SlotsFrom}
+use Rattle.path.specs.Measured.{labelsFrom, pathFrom, halfFrom, SlotsFrom}
 
 -- a label after others
 put-labels-last : (ls : List Label) (l : Label) (r : List ℕ) → putLabels (ls ++ (l ∷ [])) r ≡ putLabels ls (putLabel l r)
@@ -63,22 +63,18 @@ module _ {s : List ℕ} where
     unfolding slotsText putLabels
     holds-text r held.none = refl
     holds-text r (more {i} {l} {u} h g) =
-        append-assoc (slotsText s slots (i + 1) (length u)) (slotText s (getD slots (2 * i) 0) (getD slots (2 * i + 1) 0)) r
+        append-assoc (slotsText s slots (i + 1) (length u)) (textAt s slots i) r
         ∙ ap (λ (t : List ℕ). slotsText s slots (i + 1) (length u) ++ t) (slot-text r h)
         ∙ holds-text (putLabel (linkLabel l) r) g
         ∙ sym (put-labels-last (map linkLabel (reverse u)) (linkLabel l) r)
         ∙ ap (λ (ls : List Label). putLabels ls r) (sym (map-append linkLabel (reverse u) (l ∷ [])) ∙ ap (map linkLabel) (sym (reverse-cons l u)))
 
     holds-half : {i : ℕ} {u : Trail} → HoldsTrail s slots i u → slotsHalf s slots i (length u) ≡ firstHalf u
-    unfolding slotsHalf firstHalf
+    unfolding slotsHalf orSlot firstHalf orHalf
     holds-half held.none = refl
     holds-half (more {i} {l} {u} h g) = rw (holds-half g) (go (firstHalf u))
       where
-        go : (x : Option ℕ) →
-            elim x [
-              | some q ↦ some q
-              | none ↦ elim (slotHalf s (getD slots (2 * i) 0) (getD slots (2 * i + 1) 0)) [ true ↦ some (getD slots (2 * i) 0 - 1) | false ↦ none ]
-            ] ≡ orHalf x l
+        go : (x : Option ℕ) → orSlot s slots x i ≡ orHalf x l
         go (some q) = refl
         go none = slot-half h
 
@@ -86,16 +82,13 @@ module _ {s : List ℕ} where
     holds-within held.none k a b = absurd (omega arith)
     holds-within (more {i} {u = u} h g) k a b = go (eqb k i) refl (holds-within g k)
       where
-        At : ℕ → Type 0
-        At k = SlotWithin s (getD slots (2 * k) 0) (getD slots (2 * k + 1) 0)
-
-        go : (x : Bool) → eqb k i ≡ x → (i + 1 ≤ k → k < i + 1 + length u → At k) → At k
+        go : (x : Bool) → eqb k i ≡ x → (i + 1 ≤ k → k < i + 1 + length u → WithinAt s slots k) → WithinAt s slots k
         go true e on = rw (eqb-true k i e) (slot-within h)
         go false e on = let f : k ≡ i → ⊥ = eqb-false k i e in on (omega arith) (omega arith)
 
     -- the slots from the lowest to the last one
     module _ {low : ℕ} {u : Trail} (h : HoldsTrail s slots low u) (many : length u ≡ maxDepth - low) where
-      pub held-text : 0x24 ∷ labelsFrom s slots low ≡ pathOf u
+      pub held-text : pathFrom s slots low ≡ pathOf u
       unfolding labelsFrom pathOf pathText
       held-text =
           ap (λ (n : ℕ). 0x24 ∷ slotsText s slots low n) (sym many)

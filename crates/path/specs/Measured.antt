@@ -19,10 +19,14 @@ pub record MeasuresLabel (s : List ℕ) (from to : ℕ) (half : Bool) (size : �
   pub small : size ≤ maxLabel
 
 module _ (s slots : List ℕ) (low : ℕ) where
-  -- what they are written as; the path has a `$` before them
+  -- what they are written as
   unfoldable pub labelsFrom : List ℕ
   unfolding slotsText
   labelsFrom = slotsText s slots low (maxDepth - low)
+
+  -- and the path, with the `$` before them
+  abbrev pub pathFrom : List ℕ
+  pathFrom = 0x24 ∷ labelsFrom
 
   -- the opening quote of the first name with half of a surrogate pair
   unfoldable pub halfFrom : Option ℕ
@@ -38,4 +42,4 @@ module _ (s slots : List ℕ) (low : ℕ) where
   pub record Measures (half : Bool) (place size : ℕ) : Type 0 where
     pub half-at : half ≡ true → halfFrom ≡ some place
     pub whole : half ≡ false → halfFrom ≡ none
-    pub sized : half ≡ false → size ≡ length (0x24 ∷ labelsFrom)
+    pub sized : half ≡ false → size ≡ length pathFrom

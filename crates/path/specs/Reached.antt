@@ -9,7 +9,7 @@ use Rattle.json.specs.Verdict.{maxDepth}
 use Rattle.answers.specs.Finder.{findVerdict}
 use Rattle.paths.specs.Answer.{trailIn}
 use Rattle.paths.specs.Trails.{Trail}
-use Rattle.seek.specs.Slots.{HoldsTrail}
+use Rattle.trace.specs.Slots.{HoldsTrail}
 
 -- the value finder has no ground, and the slots from `low` to the last one hold the trail of the node that begins at the offset
 pub record Reaches («record» : List ℕ) (offset : ℕ) (slots : List ℕ) (low : ℕ) : Type 0 where

@@ -28,22 +28,33 @@ abbrev pub SlotWithin : (s : List ℕ) (x y : ℕ) → Type 0
 SlotWithin s x y = (y ≡ 0) ⊎ ((1 ≤ x) × (x ≤ y) × (y ≤ length s))
 
 module _ (s slots : List ℕ) where
+  -- the same of slot number i
+  abbrev pub textAt : ℕ → List ℕ
+  textAt i = slotText s (getD slots (2 * i) 0) (getD slots (2 * i + 1) 0)
+
+  abbrev pub halfAt : ℕ → Bool
+  halfAt i = slotHalf s (getD slots (2 * i) 0) (getD slots (2 * i + 1) 0)
+
+  abbrev pub WithinAt : ℕ → Type 0
+  WithinAt i = SlotWithin s (getD slots (2 * i) 0) (getD slots (2 * i + 1) 0)
+
   -- the m slots from i on, of which the last one is written first
   unfoldable pub slotsText : (i m : ℕ) → List ℕ
   unfolding slotText
   slotsText i zero = []
-  slotsText i (suc m) = slotsText (i + 1) m ++ slotText s (getD slots (2 * i) 0) (getD slots (2 * i + 1) 0)
+  slotsText i (suc m) = slotsText (i + 1) m ++ textAt i
 
   -- the opening quote of the first name with half of a pair
-  unfoldable pub slotsHalf : (i m : ℕ) → Option ℕ
+  unfoldable pub orSlot : Option ℕ → ℕ → Option ℕ
   unfolding slotHalf
+  orSlot (some q) i = some q
+  orSlot none i = elim (halfAt i) [ true ↦ some (getD slots (2 * i) 0 - 1) | false ↦ none ]
+
+  unfoldable pub slotsHalf : (i m : ℕ) → Option ℕ
+  unfolding orSlot
   slotsHalf i zero = none
-  slotsHalf i (suc m) =
-      elim (slotsHalf (i + 1) m) [
-        | some q ↦ some q
-        | none ↦ elim (slotHalf s (getD slots (2 * i) 0) (getD slots (2 * i + 1) 0)) [ true ↦ some (getD slots (2 * i) 0 - 1) | false ↦ none ]
-      ]
+  slotsHalf i (suc m) = orSlot (slotsHalf (i + 1) m) i
 
   -- the bounds of each name in them lie in the record
   abbrev pub SlotsWithin : (i m : ℕ) → Type 0
-  SlotsWithin i m = (k : ℕ) → i ≤ k → k < i + m → SlotWithin s (getD slots (2 * k) 0) (getD slots (2 * k + 1) 0)
+  SlotsWithin i m = (k : ℕ) → i ≤ k → k < i + m → WithinAt k

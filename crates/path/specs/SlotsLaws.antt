@@ -1,21 +1,20 @@
 -- Laws of slots, as a loop goes through them, from the last one down: what one more slot adds to the text, and to the half that is found.
 -- Each is one step of the definitions. Assumes nothing.
-use mathlib.Core.Path.{_≡_, refl, sym, ap, _∙_}
+use mathlib.Core.Path.{_≡_, refl, ap, _∙_}
 use mathlib.Core.Logic.{inl, inr}
-use mathlib.Core.List.{List, [], _∷_, _++_, append-assoc}
+use mathlib.Core.List.{List, [], _∷_, _++_}
 use mathlib.Core.Bool.{Bool, true, false}
-use mathlib.Core.Option.{Option, some, none}
-use Prim.Native.Nat.{ℕ, zero, suc, _+_, _-_, _*_, _≤_, _<_}
-use native.Mathlib.Nat.{add-zero, zero-add}
+use mathlib.Core.Option.{some, none}
+use Prim.Native.Nat.{ℕ, zero, suc, _+_, _-_, _*_, _≤_}
 use native.Mathlib.Omega.{arith}
 use lib.ListN.{length, getD, length-append}
 use lib.Seq.{slice}
 use Rattle.encoding.specs.Unescape.{unescaped}
-use Rattle.json.specs.Verdict.{maxDepth, maxBytes}
+use Rattle.json.specs.Verdict.{maxDepth}
 use Rattle.text.specs.Decimal.{decimal}
 use Rattle.path_names.specs.Escaped.{putEscaped, halfEscaped}
-use Rattle.path.specs.Slots.{slotText, slotHalf, SlotWithin, slotsText, slotsHalf, SlotsWithin}
-use Rattle.path.specs.Measured.{labelsFrom, halfFrom, SlotsFrom}
+use Rattle.path.specs.Slots.{slotText, slotHalf, SlotWithin, textAt, halfAt, slotsText, orSlot, slotsHalf}
+use Rattle.path.specs.Measured.{labelsFrom, halfFrom}
 
 -- a slot with a name
 module _ (s : List ℕ) (x y : ℕ) (h : 1 ≤ y) where
@@ -59,13 +58,6 @@ downward P step {low} {i} a b p = go (i - low) i (omega arith) b p
     go (suc d) i e b p = go d (i - 1) (omega arith) (omega arith) (step i (omega arith) b p)
 
 module _ (s slots : List ℕ) where
-  -- the text of a slot, and whether it has half of a pair
-  abbrev textAt : ℕ → List ℕ
-  textAt i = slotText s (getD slots (2 * i) 0) (getD slots (2 * i + 1) 0)
-
-  abbrev halfAt : ℕ → Bool
-  halfAt i = slotHalf s (getD slots (2 * i) 0) (getD slots (2 * i + 1) 0)
-
   -- no slot
   pub text-none : labelsFrom s slots maxDepth ≡ []
   unfolding labelsFrom
@@ -83,28 +75,30 @@ module _ (s slots : List ℕ) where
     count-is : maxDepth - (i - 1) ≡ suc (maxDepth - i)
     count-is = omega arith
 
-    pub text-more : labelsFrom s slots (i - 1) ≡ labelsFrom s slots i ++ textAt (i - 1)
+    pub text-more : labelsFrom s slots (i - 1) ≡ labelsFrom s slots i ++ textAt s slots (i - 1)
     unfolding labelsFrom
-    text-more = rw count-is (ap (λ (k : ℕ). slotsText s slots k (maxDepth - i) ++ textAt (i - 1)) next-is)
+    text-more = rw count-is (ap (λ (k : ℕ). slotsText s slots k (maxDepth - i) ++ textAt s slots (i - 1)) next-is)
 
-    half-more : halfFrom s slots (i - 1) ≡
-        elim (halfFrom s slots i) [ some q ↦ some q | none ↦ elim (halfAt (i - 1)) [ true ↦ some (getD slots (2 * (i - 1)) 0 - 1) | false ↦ none ] ]
+    half-more : halfFrom s slots (i - 1) ≡ orSlot s slots (halfFrom s slots i) (i - 1)
     unfolding halfFrom
-    half-more = rw (count-is, slotsHalf, next-is)
+    half-more = rw count-is (ap (λ (k : ℕ). orSlot s slots (slotsHalf s slots k (maxDepth - i)) (i - 1)) next-is)
 
     module _ (e : halfFrom s slots i ≡ none) where
-      pub half-here : halfAt (i - 1) ≡ true → halfFrom s slots (i - 1) ≡ some (getD slots (2 * (i - 1)) 0 - 1)
-      half-here f = half-more ∙ rw (e, f)
+      pub half-here : halfAt s slots (i - 1) ≡ true → halfFrom s slots (i - 1) ≡ some (getD slots (2 * (i - 1)) 0 - 1)
+      unfolding orSlot
+      half-here f = half-more ∙ rw (e, f, orSlot)
 
-      pub half-not-here : halfAt (i - 1) ≡ false → halfFrom s slots (i - 1) ≡ none
-      half-not-here f = half-more ∙ rw (e, f)
+      pub half-not-here : halfAt s slots (i - 1) ≡ false → halfFrom s slots (i - 1) ≡ none
+      unfolding orSlot
+      half-not-here f = half-more ∙ rw (e, f, orSlot)
 
   -- all slots from the lowest on
   module _ (low i : ℕ) (a : low ≤ i) (b : i ≤ maxDepth) where
     pub text-grows : length (labelsFrom s slots i) ≤ length (labelsFrom s slots low)
     text-grows =
         downward (λ k. length (labelsFrom s slots i) ≤ length (labelsFrom s slots k))
-        (λ k c d h. omega (arith, ap length (text-more k c d), length-append (labelsFrom s slots k) (textAt (k - 1)))) a b (omega arith)
+        (λ k c d h. omega (arith, ap length (text-more k c d), length-append (labelsFrom s slots k) (textAt s slots (k - 1)))) a b (omega arith)
 
     pub half-stays : {q : ℕ} → halfFrom s slots i ≡ some q → halfFrom s slots low ≡ some q
+    unfolding orSlot
     half-stays {q} = downward (λ k. halfFrom s slots k ≡ some q) (λ k c d e. half-more k c d ∙ rw e) a b

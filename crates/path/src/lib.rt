@@ -4,19 +4,18 @@ use json::MAX_DEPTH;
 use path_names::NameSize;
 use path_names::name_size;
 use path_names::write_name;
-use seek::Slots;
-use seek::trace_from;
 use text::digit_count;
 use text::write_byte;
 use text::write_field;
 use text::write_word;
+use trace::Slots;
+use trace::trace_from;
 use validate::check_record;
 ghost use mathlib.Core.Path.{_≡_};
-ghost use mathlib.Core.List.{_∷_};
 ghost use Prim.Native.Nat.{_-_, _≤_};
 ghost use lib.ListN.{length};
 ghost use Rattle.json.specs.Verdict.{maxBytes};
-ghost use Rattle.path.specs.Measured.{labelsFrom, SlotsFrom, MeasuresLabel, Measures};
+ghost use Rattle.path.specs.Measured.{pathFrom, SlotsFrom, MeasuresLabel, Measures};
 ghost use Rattle.path.specs.Reached.{Reaches};
 ghost use Rattle.path.specs.Slots.{slotText, SlotWithin};
 ghost use Rattle.paths.specs.Answer.{WritesPath};
@@ -110,8 +109,8 @@ fn write_label(record: &[u8], from: u32, to: u32, out: &mut [u8], at: usize) -> 
 
 // Writes the path whose labels stand in the slots from `low` on, and gives its size.
 fn write_labels(record: &[u8], slots: &Slots, low: usize, out: &mut [u8]) -> usize
-    requires { ⌜ SlotsFrom (now «record») (now slots) low × Room (0x24 ∷ labelsFrom (now «record») (now slots) low) 0 (now out) ⌝ }
-    ensures { λ r. ⌜ Written (0x24 ∷ labelsFrom (now («record» .entry)) (now (slots .entry)) low) 0 (now (out .entry)) (now (out .exit)) r ⌝ }
+    requires { ⌜ SlotsFrom (now «record») (now slots) low × Room (pathFrom (now «record») (now slots) low) 0 (now out) ⌝ }
+    ensures { λ r. ⌜ Written (pathFrom (now («record» .entry)) (now (slots .entry)) low) 0 (now (out .entry)) (now (out .exit)) r ⌝ }
 {
     let mut at = write_byte(out, 0, b'$');
     let mut i = MAX_DEPTH;
@@ -130,6 +129,7 @@ pub struct PathWritten {
     pub length: usize,
 }
 
+// The answer of a refusal.
 fn refused(ground: u32, place: usize) -> PathWritten
     ensures { λ r. ⌜ (r .ground ≡ ground) × (r .place ≡ place) × (r .length ≡ 0) ⌝ }
 {

@@ -1,5 +1,3 @@
-pub mod Slots
 pub mod Seeks
 pub mod EndLaws
-pub mod SlotLaws
 pub mod TrailLaws

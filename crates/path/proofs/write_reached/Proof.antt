@@ -1,5 +1,4 @@
 -- `path::write_reached` meets its contract: what the slots are measured as decides, and then they are written. Assumes nothing.
-use native.Mathlib.Omega.{arith}
 use borrow.Author.Needs.{needs}
 use Rattle.path.proofs.Answered.{reached-within, writes-half, writes-too-long, path-fits, writes-all}
 use Rattle.path.proofs.write_reached.Statement.{statement}
@@ -25,13 +24,16 @@ returns-2 c =
     let answer = c .refused2 .ensures in
     let sized = c .before .before .before .before in
     rw (answer .0, answer .1, answer .2)
-    (writes-too-long _ _ _ (sized .before .before .before .pre .0) (sized .measure .ensures) (c .before .before .before .if1 .left) (c .before .if2 .taken))
+    (writes-too-long _ _ _ (sized .before .before .before .pre .0) (sized .measure .ensures) (c .before .before .before .if1 .left)
+    (c .before .if2 .taken))
 
 write-labels-requires : tie.Need-write-labels-requires
 write-labels-requires c κs =
     let sized = c .before .before .before .before in
-    let start = sized .before .before .before in
-    (reached-within _ _ (start .pre .0), path-fits (sized .measure .ensures) (c .before .before .before .if1 .left) (c .before .if2 .left))
+    let start = sized .before .before .before in (
+      reached-within _ _ (start .pre .0),
+      path-fits _ _ _ (start .pre .0) (sized .measure .ensures) (c .before .before .before .if1 .left) (c .before .if2 .left),
+    )
 
 same-length : tie.Need-same-length
 same-length c = search needs

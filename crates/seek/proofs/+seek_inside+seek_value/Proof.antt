@@ -1,13 +1,10 @@
 -- The two halves of the descent meet their contracts. The levels that may still be opened fall by one with each container that is entered.
--- The loop's invariant: an item is ahead or the container was left, whatever items stand there. What was found below an item was found
--- below the container, with the link of the item kept. Assumes nothing.
+-- The loop's invariant: some item is ahead or the container was left, whatever items stand there. Assumes nothing.
 use borrow.Author.Needs.{needs}
 use Prim.Native.Nat.{ℕ, _+_, _<_}
-use mathlib.Core.Path.{_≡_, refl, sym, _∙_}
+use mathlib.Core.Path.{sym, _∙_}
 use native.Mathlib.Omega.{arith}
-use lib.ListN.{length}
 use Rattle.seek.proofs.Descent.{seeks-there, seeks-behind, seeks-outside, seeks-deeper, seeks-scalar, seeks-below}
-use Rattle.seek.proofs.Trailing.{traces-none, traces-there, traces-below, traces-left, going-traced}
 use Rattle.seek.proofs.Turns.{turnsLeft, Going, going-first, going-left, going-found, going-on, going-falls}
 use borrow.Fn.Kinds.{In}
 use borrow.Fn.PlainCycle.{Measures, is, falls, and}
@@ -19,7 +16,6 @@ use Rattle.seek.proofs.seek_value.Kinds as seek-value-kinds
 use Rattle.seek.proofs.+seek_inside+seek_value.Lts-seek_value as seek-value-lts
 use Rattle.encoding.proofs.class.Reads as class-reads
 use Rattle.seek.proofs.first_item.Reads as first-item-reads
-use Rattle.seek.proofs.keep_link.Reads as keep-link-reads
 use Rattle.seek.proofs.next_item.Reads as next-item-reads
 use Rattle.seek.proofs.value_end.Reads as value-end-reads
 use Rattle.scan.proofs.enter_item.Reads as enter-item-reads
@@ -28,23 +24,23 @@ use Rattle.seek.proofs.+seek_inside+seek_value.{statement}
 use Rattle.seek.proofs.+seek_inside+seek_value.Tie.{close}
 
 -- the measures: twice the levels left, and one more for items
-abbrev inside-levels : Measures 3 seek-inside-kinds.ps ℕ
+abbrev inside-levels : Measures 2 seek-inside-kinds.ps ℕ
 inside-levels κs a = a .1 .1 .1 .1 .1 .0 + a .1 .1 .1 .1 .1 .0 + 1
 
-abbrev value-levels : Measures 3 seek-value-kinds.ps ℕ
+abbrev value-levels : Measures 2 seek-value-kinds.ps ℕ
 value-levels κs a = a .1 .1 .1 .1 .0 + a .1 .1 .1 .1 .0
 
-abbrev inside-at : ℕ → In 3 seek-inside-kinds.ps
-inside-at t = and 3 seek-inside-kinds.ps (is 3 seek-inside-kinds.ps inside-levels t) seek-inside.Pre
+abbrev inside-at : ℕ → In 2 seek-inside-kinds.ps
+inside-at t = and 2 seek-inside-kinds.ps (is 2 seek-inside-kinds.ps inside-levels t) seek-inside.Pre
 
-abbrev inside-below : ℕ → In 3 seek-inside-kinds.ps
-inside-below t = and 3 seek-inside-kinds.ps (falls 3 seek-inside-kinds.ps _<_ inside-levels t) seek-inside.Pre
+abbrev inside-below : ℕ → In 2 seek-inside-kinds.ps
+inside-below t = and 2 seek-inside-kinds.ps (falls 2 seek-inside-kinds.ps _<_ inside-levels t) seek-inside.Pre
 
-abbrev value-at : ℕ → In 3 seek-value-kinds.ps
-value-at t = and 3 seek-value-kinds.ps (is 3 seek-value-kinds.ps value-levels t) seek-value.Pre
+abbrev value-at : ℕ → In 2 seek-value-kinds.ps
+value-at t = and 2 seek-value-kinds.ps (is 2 seek-value-kinds.ps value-levels t) seek-value.Pre
 
-abbrev value-below : ℕ → In 3 seek-value-kinds.ps
-value-below t = and 3 seek-value-kinds.ps (falls 3 seek-value-kinds.ps _<_ value-levels t) seek-value.Pre
+abbrev value-below : ℕ → In 2 seek-value-kinds.ps
+value-below t = and 2 seek-value-kinds.ps (falls 2 seek-value-kinds.ps _<_ value-levels t) seek-value.Pre
 
 -- what the functions that are called ask and promise
 abbrev inside-claims : ℕ → seek-inside-lts.Claims
@@ -55,8 +51,6 @@ inside-claims t = (
   enter-item-reads.Learnt,
   value-below t,
   seek-value.Post,
-  keep-link-reads.Asked,
-  keep-link-reads.Learnt,
   next-item-reads.Asked,
   next-item-reads.Learnt,
 )
@@ -74,11 +68,10 @@ value-claims t = (
 )
 
 abbrev inside-inv : seek-inside-lts.InvT-loop
-inside-inv classes «record» offset at object levels slots₀ ahead₀ position₀ slots ahead position =
-    (length slots ≡ length slots₀) × Going «record» offset at object levels (ahead .item) (ahead .at) position
+inside-inv classes «record» offset at object levels ahead₀ ahead = (j : ℕ) × Going «record» offset at object levels (ahead .item) (ahead .at) j
 
 abbrev inside-measure : seek-inside-lts.MeasureT-loop
-inside-measure classes «record» offset at object levels slots₀ ahead₀ position₀ slots ahead position = turnsLeft «record» (ahead .item) (ahead .at)
+inside-measure classes «record» offset at object levels ahead₀ ahead = turnsLeft «record» (ahead .item) (ahead .at)
 
 -- the items of a container, where the measure is t
 module _ (t : ℕ) where
@@ -86,7 +79,7 @@ module _ (t : ℕ) where
   inside-first-item-requires c κs = search needs
 
   inside-loop-holds : seek-inside-lts.Need-loop-holds (inside-claims t) (inside-at t) seek-inside.Post inside-inv inside-measure
-  inside-loop-holds c = (refl, going-first _ _ _ _ _ _ _ (c .first-item .ensures))
+  inside-loop-holds c = (0, going-first _ _ _ _ _ _ _ (c .first-item .ensures))
 
   inside-enter-item-requires : seek-inside-lts.Need-enter-item-requires (inside-claims t) (inside-at t) seek-inside.Post inside-inv inside-measure
   inside-enter-item-requires c κs = search needs
@@ -94,72 +87,37 @@ module _ (t : ℕ) where
   inside-seek-value-requires : seek-inside-lts.Need-seek-value-requires (inside-claims t) (inside-at t) seek-inside.Post inside-inv inside-measure
   inside-seek-value-requires c κs = search needs
 
-  inside-keep-link-requires : seek-inside-lts.Need-keep-link-requires (inside-claims t) (inside-at t) seek-inside.Post inside-inv inside-measure
-  inside-keep-link-requires c κs =
-      let entered = c .before .before .before .before .before .before .before in
-      let looped = entered .before .before in
-      let item = entered .enter-item .ensures in
-      let bytes = looped .before .before .before .before .pre .1 .1 .1 in (
-        omega (arith, item .name-order, item .name-within, bytes),
-        omega (arith, item .name-within, bytes),
-        omega (arith, looped .loop .inv .1 .behind (entered .before .loop-test .taken), looped .loop .inv .1 .within, bytes),
-      )
-
-  inside-add-t18 : seek-inside-lts.Need-add-t18 (inside-claims t) (inside-at t) seek-inside.Post inside-inv inside-measure
-  inside-add-t18 c =
-      let sought = c .before .before .before .before .before .before .before .before .before in
-      let looped = sought .before .before .before .before in
-      omega (arith, sought .seek-value .ensures .1 .few, looped .before .before .before .before .pre .1 .1 .2)
-
-  inside-same-length : seek-inside-lts.Need-same-length (inside-claims t) (inside-at t) seek-inside.Post inside-inv inside-measure
-  inside-same-length c = search needs
-
   inside-returns : seek-inside-lts.Need-returns (inside-claims t) (inside-at t) seek-inside.Post inside-inv inside-measure
   inside-returns c =
-      let kept = c .before .before .before in
-      let found = kept .before .before in
-      let sought = found .before .before .before .before in
-      let entered = sought .before .before in
+      let sought = c .before .before in
+      let entered = sought .before in
       let test = entered .before in
-      let going = test .before .loop .inv .1 in (
-        going-found _ _ _ _ _ _ _ _ going (test .loop-test .taken) _ _ _ _ (entered .enter-item .ensures) _ _
-            (sought .seek-value .ensures .0) (found .if1 .taken),
-        going-traced _ _ _ _ _ _ _ _ going (test .loop-test .taken) _ _ _ _ (entered .enter-item .ensures) _ _ _
-            (sought .seek-value .ensures .1) _ (kept .keep-link .ensures),
-      )
+      going-found _ _ _ _ _ _ _ _ (test .before .loop .inv .1) (test .loop-test .taken) _ _ _ _ (entered .enter-item .ensures) _ _
+      (sought .seek-value .ensures) (c .if1 .taken)
 
   inside-next-item-requires : seek-inside-lts.Need-next-item-requires (inside-claims t) (inside-at t) seek-inside.Post inside-inv inside-measure
   inside-next-item-requires c κs = search needs
 
-  inside-add-position : seek-inside-lts.Need-add-position (inside-claims t) (inside-at t) seek-inside.Post inside-inv inside-measure
-  inside-add-position c =
-      let test = c .before .before .before .before .before .before .before .before in
-      let going = test .before .loop .inv .1 in
-      omega (arith, going .behind (test .loop-test .taken), going .within, test .before .before .before .before .before .pre .1 .1 .1)
-
   inside-loop-less : seek-inside-lts.Need-loop-less (inside-claims t) (inside-at t) seek-inside.Post inside-inv inside-measure
   inside-loop-less c =
-      let sought = c .before .before .before .before .before in
-      let entered = sought .before .before in
+      let sought = c .before .before .before in
+      let entered = sought .before in
       let test = entered .before in
       going-falls _ _ _ _ _ _ _ _ (test .before .loop .inv .1) (test .loop-test .taken) _ _ _ _ (entered .enter-item .ensures) _ _
-      (sought .seek-value .ensures .0) _ _ (c .next-item .ensures)
+      (sought .seek-value .ensures) _ _ (c .next-item .ensures)
 
   inside-loop-again : seek-inside-lts.Need-loop-again (inside-claims t) (inside-at t) seek-inside.Post inside-inv inside-measure
   inside-loop-again c =
-      let sought = c .before .before .before .before .before in
-      let entered = sought .before .before in
+      let sought = c .before .before .before in
+      let entered = sought .before in
       let test = entered .before in (
-        sought .seek-value .kept .1 .1 .1 .1 .1 .0 ∙ test .before .loop .inv .0,
+        _,
         going-on _ _ _ _ _ _ _ _ (test .before .loop .inv .1) (test .loop-test .taken) _ _ _ _ (entered .enter-item .ensures) _ _
-            (sought .seek-value .ensures .0) (c .before .if1 .left) _ _ (c .next-item .ensures),
+            (sought .seek-value .ensures) (c .before .if1 .left) _ _ (c .next-item .ensures),
       )
 
-  inside-same-length-2 : seek-inside-lts.Need-same-length-2 (inside-claims t) (inside-at t) seek-inside.Post inside-inv inside-measure
-  inside-same-length-2 c = search needs
-
   inside-returns-2 : seek-inside-lts.Need-returns-2 (inside-claims t) (inside-at t) seek-inside.Post inside-inv inside-measure
-  inside-returns-2 c = (going-left _ _ _ _ _ _ _ _ (c .before .loop .inv .1) (c .loop-test .left), traces-left _ _ _ _ _ _)
+  inside-returns-2 c = going-left _ _ _ _ _ _ _ _ (c .before .loop .inv .1) (c .loop-test .left)
 
 -- a value
 module _ (t : ℕ) where
@@ -167,16 +125,16 @@ module _ (t : ℕ) where
   value-value-end-requires c κs = search needs
 
   value-returns : seek-value-lts.Need-returns (value-claims t) (value-at t) seek-value.Post
-  value-returns c = (seeks-there _ _ _ _ _ (c .before .if1 .taken) (c .value-end .ensures), traces-there _ _ _ _ _ _ (c .before .if1 .taken))
+  value-returns c = seeks-there _ _ _ _ _ (c .before .if1 .taken) (c .value-end .ensures)
 
   value-value-end-requires-2 : seek-value-lts.Need-value-end-requires-2 (value-claims t) (value-at t) seek-value.Post
   value-value-end-requires-2 c κs = search needs
 
   value-returns-2 : seek-value-lts.Need-returns-2 (value-claims t) (value-at t) seek-value.Post
-  value-returns-2 c = (seeks-behind _ _ _ _ _ (c .before .if2 .taken) (c .value-end2 .ensures), traces-none _ _ _ _ _)
+  value-returns-2 c = seeks-behind _ _ _ _ _ (c .before .if2 .taken) (c .value-end2 .ensures)
 
   value-returns-3 : seek-value-lts.Need-returns-3 (value-claims t) (value-at t) seek-value.Post
-  value-returns-3 c = (seeks-outside _ _ _ _ (c .before .before .before .before .before .pre .1 .1 .0) (c .if3 .taken), traces-none _ _ _ _ _)
+  value-returns-3 c = seeks-outside _ _ _ _ (c .before .before .before .before .pre .1 .1 .0) (c .if3 .taken)
 
   value-shared-slice-read-b : seek-value-lts.Need-shared-slice-read-b (value-claims t) (value-at t) seek-value.Post
   value-shared-slice-read-b c = search needs
@@ -188,18 +146,14 @@ module _ (t : ℕ) where
   value-scalar-end-requires c κs = search needs
 
   value-returns-4 : seek-value-lts.Need-returns-4 (value-claims t) (value-at t) seek-value.Post
-  value-returns-4 c = (
-    seeks-scalar _ _ _ _ _ (c .before .before .before .before .before .before .if1 .left)
-        (λ z. c .before .if4 .taken (c .before .before .class .ensures ∙ z)) (c .scalar-end .ensures),
-    traces-none _ _ _ _ _,
-  )
+  value-returns-4 c =
+      seeks-scalar _ _ _ _ _ (c .before .before .before .before .before .before .if1 .left)
+      (λ z. c .before .if4 .taken (c .before .before .class .ensures ∙ z)) (c .scalar-end .ensures)
 
   value-returns-5 : seek-value-lts.Need-returns-5 (value-claims t) (value-at t) seek-value.Post
-  value-returns-5 c = (
-    seeks-deeper _ _ _ _ (c .before .before .before .before .before .before .before .before .before .pre .1 .1 .0)
-        (sym (c .before .before .class .ensures) ∙ c .before .if4 .left) (c .if5 .taken),
-    traces-none _ _ _ _ _,
-  )
+  value-returns-5 c =
+      seeks-deeper _ _ _ _ (c .before .before .before .before .before .before .before .before .pre .1 .1 .0)
+      (sym (c .before .before .class .ensures) ∙ c .before .if4 .left) (c .if5 .taken)
 
   value-add-seek-inside : seek-value-lts.Need-add-seek-inside (value-claims t) (value-at t) seek-value.Post
   value-add-seek-inside c = search needs
@@ -209,24 +163,13 @@ module _ (t : ℕ) where
 
   value-seek-inside-requires : seek-value-lts.Need-seek-inside-requires (value-claims t) (value-at t) seek-value.Post
   value-seek-inside-requires c κs =
-      let inside = c .before .before .before .before .before in
-      let pre = inside .before .before .before .before .before .pre in
-      let bounds = pre .1 .1 in
-      (omega (arith, c .before .if5 .left), (pre .1 .0, (omega (arith, inside .if3 .left), bounds .1, omega (arith, bounds .2))))
-
-  value-same-length : seek-value-lts.Need-same-length (value-claims t) (value-at t) seek-value.Post
-  value-same-length c = search needs
+      let pre = c .before .before .before .before .before .before .before .before .pre in
+      (omega (arith, c .if5 .left), (pre .1 .0, (omega (arith, c .before .before .before .before .if3 .left), pre .1 .1 .1)))
 
   value-returns-6 : seek-value-lts.Need-returns-6 (value-claims t) (value-at t) seek-value.Post
   value-returns-6 c =
-      let inside = c .before .before in
-      let some-left = inside .before .before in
-      let opening = some-left .before in
-      let class-is = sym (opening .before .class .ensures) ∙ opening .if4 .left in
-      let elsewhere = opening .before .before .before .before .before .if1 .left in (
-        seeks-below _ _ _ _ _ _ elsewhere class-is (some-left .if5 .left) (inside .seek-inside .ensures .0),
-        traces-below _ _ _ _ _ _ _ elsewhere class-is (some-left .if5 .left) (inside .seek-inside .ensures .1),
-      )
+      seeks-below _ _ _ _ _ _ (c .before .before .before .before .before .before .before .if1 .left)
+      (sym (c .before .before .before .class .ensures) ∙ c .before .before .if4 .left) (c .before .if5 .left) (c .seek-inside .ensures)
 
 pub +seek-inside+seek-value-spec : {M : Type 1} → statement M
 +seek-inside+seek-value-spec =
@@ -243,15 +186,10 @@ pub +seek-inside+seek-value-spec : {M : Type 1} → statement M
     (inside-loop-holds t)
     (inside-enter-item-requires t)
     (inside-seek-value-requires t)
-    (inside-keep-link-requires t)
-    (inside-add-t18 t)
-    (inside-same-length t)
     (inside-returns t)
     (inside-next-item-requires t)
-    (inside-add-position t)
     (inside-loop-less t)
     (inside-loop-again t)
-    (inside-same-length-2 t)
     (inside-returns-2 t))
     (λ t. seek-value-lts.spec
     (value-claims t)
@@ -270,5 +208,4 @@ pub +seek-inside+seek-value-spec : {M : Type 1} → statement M
     (value-add-seek-inside t)
     (value-sub-seek-inside t)
     (value-seek-inside-requires t)
-    (value-same-length t)
     (value-returns-6 t))

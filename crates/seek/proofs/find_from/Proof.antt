@@ -7,14 +7,11 @@ use Rattle.seek.proofs.find_from.Tie as tie
 skip-blanks-requires : tie.Need-skip-blanks-requires
 skip-blanks-requires c κs = search needs
 
-slice-aggregate-seek-value : tie.Need-slice-aggregate-seek-value
-slice-aggregate-seek-value c = search needs
-
 seek-value-requires : tie.Need-seek-value-requires
 seek-value-requires c κs = search needs
 
 returns : tie.Need-returns
-returns c = seeks-root _ _ _ _ _ (c .before .before .before .skip-blanks .ensures) (c .before .seek-value .ensures .0)
+returns c = seeks-root _ _ _ _ _ (c .before .skip-blanks .ensures) (c .seek-value .ensures)
 
 pub find-from-spec : {M : Type 1} → statement M
-find-from-spec = tie.close (tie.spec skip-blanks-requires slice-aggregate-seek-value seek-value-requires returns)
+find-from-spec = tie.close (tie.spec skip-blanks-requires seek-value-requires returns)

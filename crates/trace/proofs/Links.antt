@@ -11,8 +11,8 @@ use Rattle.json.specs.Grammar.{Key}
 use Rattle.json.specs.Points.{pointsOf}
 use Rattle.paths.specs.Trails.{named, linkOf}
 use Rattle.scan.specs.Scans.{kindIf, NameAt, QuoteAt}
-use Rattle.seek.specs.Seeks.{KeepsSlot}
-use Rattle.seek.specs.Slots.{Slot, name, position}
+use Rattle.trace.specs.Traces.{KeepsSlot}
+use Rattle.trace.specs.Slots.{Slot, name, position}
 
 module _ (l : List ℕ) (level x y : ℕ) where
   pub keeps-out : length l / 2 ≤ level → KeepsSlot l level x y l

@@ -1,7 +1,7 @@
 -- `seek::keep_link` meets its contract: the two numbers go by whether the container is an object. Assumes nothing.
 use borrow.Author.Needs.{needs}
-use Rattle.seek.proofs.keep_link.Statement.{statement}
-use Rattle.seek.proofs.keep_link.Tie as tie
+use Rattle.trace.proofs.keep_link.Statement.{statement}
+use Rattle.trace.proofs.keep_link.Tie as tie
 
 keep-slot-requires : tie.Need-keep-slot-requires
 keep-slot-requires c κs = search needs

@@ -1,10 +1,10 @@
 -- `seek::keep_slot` meets its contract: a level that has a slot is written, and where it has none nothing is. Assumes nothing.
 use native.Mathlib.Omega.{arith}
 use lib.ListN.{length-set}
-use Rattle.seek.proofs.Links.{keeps-out, keeps-in}
+use Rattle.trace.proofs.Links.{keeps-out, keeps-in}
 use borrow.Author.Needs.{needs}
-use Rattle.seek.proofs.keep_slot.Statement.{statement}
-use Rattle.seek.proofs.keep_slot.Tie as tie
+use Rattle.trace.proofs.keep_slot.Statement.{statement}
+use Rattle.trace.proofs.keep_slot.Tie as tie
 
 returns : tie.Need-returns
 returns c = keeps-out _ _ _ _ (c .if1 .taken)

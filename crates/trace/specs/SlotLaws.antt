@@ -6,7 +6,7 @@ use Prim.Native.Nat.{ℕ, _+_, _*_, _<_}
 use native.Mathlib.Omega.{arith}
 use lib.ListN.{length, getD}
 use Rattle.paths.specs.Trails.{Link, Trail}
-use Rattle.seek.specs.Slots.{Slot, HoldsTrail, none, more}
+use Rattle.trace.specs.Slots.{Slot, HoldsTrail, none, more}
 
 -- the slot i holds the link l
 abbrev pub HoldsLink : (s slots : List ℕ) → ℕ → Link → Type 0

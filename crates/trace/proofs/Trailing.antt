@@ -19,15 +19,16 @@ use Rattle.paths.specs.Trails.{Link, Trail, linkOf, trails, itemsTrails, trails
 use Rattle.scan.specs.Scans.{kindIf, NameAt, EndsBlanks, EntersItem}
 use Rattle.scan.specs.ShapeLaws.{solid-value, stopped-more, stopped-end}
 use Rattle.walk.specs.Ahead.{valueAt}
-use Rattle.seek.specs.Seeks.{KeepsSlot, SeeksValue, Traces, TracesValue, TracesInside, TracesFrom}
-use Rattle.seek.specs.SlotLaws.{HoldsLink, holds-same, holds-end}
-use Rattle.seek.specs.Slots.{HoldsTrail, none}
+use Rattle.seek.specs.Seeks.{SeeksValue}
+use Rattle.trace.specs.Traces.{KeepsSlot, Traces, TracesValue, TracesInside, TracesFrom}
+use Rattle.trace.specs.SlotLaws.{HoldsLink, holds-same, holds-end}
+use Rattle.trace.specs.Slots.{HoldsTrail, none}
 use Rattle.seek.specs.TrailLaws.{trail-there, trail-inside}
 use Rattle.seek.proofs.Descent.{root-here, seeks-root}
 use Rattle.seek.proofs.Inside.{ItemAhead, value-here, item-traced}
-use Rattle.seek.proofs.Links.{item-slot}
+use Rattle.trace.proofs.Links.{item-slot}
 use Rattle.seek.proofs.Turns.{Going}
 use Rattle.seek.proofs.Values.{Opens, opens, opens-items}
 
 module _ (s : List ℕ) (o a n : ℕ) (slots : List ℕ) where
   -- nothing was found, or the value itself
