@@ -24,6 +24,8 @@ static const char *const grounds[] = {
     "the record is nested too deep",
     "the list is full",
     "no value begins there",
+    "a name on the way has half of a surrogate pair",
+    "the path is longer than the buffer",
 };
 
 static void *or_exit(void *memory)

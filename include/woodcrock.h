@@ -3,7 +3,7 @@
  *
  * A query (part of RFC 9535) and a record (RFC 8259 in UTF-8) are lent as bytes. A lister writes
  * where in the record the nodes stand that the query picks out; nothing of the record is copied.
- * Link with libwoodcrock_c.a.
+ * The writer of a path tells where a node stands by names and positions. Link with libwoodcrock_c.a.
  *
  * A query is `$` and then up to 16 steps: `.name`, `.*`, `['name']`, `["name"]`, `[*]` and `[2]` take
  * from the node itself; a deep step, `..` before the same (`..name`, `..['name']`, `..[2]`), takes
@@ -14,16 +14,16 @@
  * halves of a surrogate pair stand together.
  *
  * What a caller owes. The calls cannot test these; all else is free, and any bytes are answered.
- *   - A pointer with a length n > 0 is that of n readable bytes, or, for `list`, of n readable and
- *     writable numbers at an address that is a multiple of 4. With length 0 any pointer will do,
- *     NULL too.
- *   - While the call runs, nothing else writes to what is lent or reads `list`, and `list` overlaps
- *     neither `query` nor `record`. `query` and `record` may overlap each other.
+ *   - A pointer with a length n > 0 is that of n readable bytes, for `buffer` of n readable and
+ *     writable bytes, or, for `list`, of n readable and writable numbers at an address that is a
+ *     multiple of 4. With length 0 any pointer will do, NULL too.
+ *   - While the call runs, nothing else writes to what is lent or reads `list` or `buffer`, and
+ *     these overlap neither `query` nor `record`. `query` and `record` may overlap each other.
  *   - A bool is 0 or 1.
  *
- * What every call keeps. It ends. It reads nothing but what it is lent, writes nothing but `list`,
- * and keeps nothing after it returns, so that calls may run at once on several threads. It takes no
- * memory but its stack; README.md says how much stack each call was measured to take.
+ * What every call keeps. It ends. It reads nothing but what it is lent, writes nothing but `list` or
+ * `buffer`, and keeps nothing after it returns, so that calls may run at once on several threads. It
+ * takes no memory but its stack; README.md says how much stack each call was measured to take.
  *
  * Offsets and places count bytes from 0.
  */
@@ -54,7 +54,10 @@ enum {
     WOODCROCK_RECORD_TOO_DEEP = 6,  /* a bracket opens level 513 of nesting; its place */
     WOODCROCK_LIST_FULL = 7,        /* more nodes than the list has pairs; first byte of the first
                                        node left over */
-    WOODCROCK_NO_VALUE_THERE = 8    /* no value begins at the offset; the offset as given */
+    WOODCROCK_NO_VALUE_THERE = 8,   /* no value begins at the offset; the offset as given */
+    WOODCROCK_HALF_IN_NAME = 9,     /* a name on the way to the node, or its own, has half of a
+                                       surrogate pair; opening quote of the first such name */
+    WOODCROCK_PATH_TOO_LONG = 10    /* the path is longer than the buffer; first byte of the node */
 };
 
 /* The most bytes of a query and of a record that are taken. */
@@ -74,6 +77,13 @@ typedef struct {
     size_t place;    /* where in the record; 0 without a refusal */
     size_t end;      /* the byte after the value's last; 0 on a refusal */
 } woodcrock_value;
+
+/* The answer of the writer of a path. */
+typedef struct {
+    uint32_t ground; /* 0, or why the call refuses: 4, 5, 6, 8, 9 or 10 */
+    size_t place;    /* where in the record; 0 without a refusal */
+    size_t length;   /* bytes written to the buffer; 0 on a refusal */
+} woodcrock_written;
 
 /* The words of a block: bit i is for the block's byte i, and bits past its end are 0. */
 typedef struct {
@@ -122,6 +132,31 @@ woodcrock_answer woodcrock_list_jumping(const uint8_t *query, size_t query_len,
  * Grounds 4 to 6: the record is refused. Ground 8: no value begins there; a member's name is none.
  */
 woodcrock_value woodcrock_find_value(const uint8_t *record, size_t record_len, size_t offset);
+
+/*
+ * Writes the path of the node whose first byte is at `offset` to the start of a buffer; any offset
+ * may be asked for. A list has the first bytes of its nodes.
+ *
+ * It is the normalized path of RFC 9535, section 2.7: `$`, and then in brackets the name or the
+ * position of each node on the way from the root down to and with this one, as in
+ * `$['blend'][0]['lot']`; in UTF-8, with no zero byte behind it. A name stands between single quotes,
+ * its escapes decoded. In it a single quote and a backslash have a backslash before them; a control
+ * below 20 (hexadecimal) is a backslash and one of `b t n f r`, or `u00` and two digits in lower case;
+ * all else is itself. Members of one object that repeat a name have the same path. A path of at most
+ * 16 steps and 1,024 bytes is a query that picks out exactly the nodes that have it.
+ *
+ * Ground 0: the first `length` bytes of the buffer are the path.
+ * Grounds 4 to 6 and 8: as for the value finder.
+ * Ground 9: a name on the way to the node, or its own, has half of a surrogate pair, which no path
+ *   can hold.
+ * Ground 10: the path is longer than the buffer. Twice as many bytes as the record has are enough for
+ *   each of its paths.
+ * Always: the bytes of the buffer from `length` on keep what they held, on a refusal all of them.
+ *
+ * Every call checks the whole record, so that the paths of many nodes take as many checks.
+ */
+woodcrock_written woodcrock_write_path(const uint8_t *record, size_t record_len, size_t offset,
+                                       uint8_t *buffer, size_t buffer_len);
 
 /*
  * Sorts one block, the first 64 bytes of `rest` or fewer if it has fewer, into words of bits.

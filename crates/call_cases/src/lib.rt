@@ -2,6 +2,7 @@
 // answer; at the end stands the number of such lines. docs/SAMPLES.md has the lines.
 mod calls;
 mod lists;
+mod paths;
 
 use calls::run_blocks;
 use calls::run_value;
@@ -13,6 +14,7 @@ use cases::show::print_line;
 use cases::write_text;
 use lists::MAX_NUMBERS;
 use lists::run_query;
+use paths::run_path;
 ghost use mathlib.Core.Path.{_≡_};
 ghost use Prim.Native.Nat.{_≤_};
 ghost use lib.ListN.{length};
@@ -32,9 +34,11 @@ const QUERY: u8 = b'q';
 
 const VALUE: u8 = b'v';
 
+const PATH: u8 = b'p';
+
 const BLOCKS: u8 = b'b';
 
-// What the lines so far have set, the bytes of the record and the numbers of a list; how many of them made calls; and whether all
+// What the lines so far have set, the bytes of the record and the numbers of a list, which are also the bytes of a buffer; how many of them made calls; and whether all
 // could be read.
 struct State {
     size: usize,
@@ -100,6 +104,7 @@ fn run_calls(key: u8, text: &[u8], record: &[u8], state: State) -> State
     match key {
         QUERY => counted(state, run_query(text, record, state.numbers)),
         VALUE => counted(state, run_value(text, record)),
+        PATH => counted(state, run_path(text, record, state.numbers)),
         BLOCKS => {
             run_blocks(record);
             counted(state, true)

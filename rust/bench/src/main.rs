@@ -16,7 +16,7 @@ use std::hint::black_box;
 use std::path::{Path, PathBuf};
 use std::process::{Command, ExitCode};
 use std::{env, fs};
-use woodcrock::{find_value, Ground, Walk};
+use woodcrock::{find_value, list, write_path, Ground, Walk};
 
 /// How long one engine is measured on one job in one round.
 const EFFORT: Effort = Effort { milliseconds: 200, batch: 1 };
@@ -45,10 +45,11 @@ pub struct Measured {
     pub dead: f64,
 }
 
-/// The value finder at the root of a record.
+/// The value finder at the root of a record, and the writer of a path at its last node.
 pub struct Found {
     pub record: &'static str,
     pub time: f64,
+    pub path: f64,
 }
 
 /// All that is written down.
@@ -132,7 +133,7 @@ fn round(
 }
 
 /// Measures all jobs, the engines and the check in turn; with a query that asks for the root alone also
-/// the value finder.
+/// the value finder and the writer of a path.
 fn measure(
     jobs: &'static [Job],
     engines: &[Engine],
@@ -150,7 +151,9 @@ fn measure(
         let mut measured = Measured { job, bytes, nodes: 0, times, check, dead };
         let mut list = vec![0; bytes + 1];
         let longer = refused_at_its_end(record)?;
-        let mut root = Found { record: record.name, time: f64::INFINITY };
+        let mut root = Found { record: record.name, time: f64::INFINITY, path: f64::INFINITY };
+        let last = if job.steps.is_empty() { last_node(record)? } else { 0 };
+        let mut buffer = [0; PATH];
         for number in 0..rounds {
             round(number, &mut measured, engines, record, effort, &mut list)?;
             measured.check = measured.check.min(clock::best(effort, || {
@@ -159,6 +162,9 @@ fn measure(
             if job.steps.is_empty() {
                 root.time = root.time.min(clock::best(effort, || {
                     let _ = black_box(find_value(&record.bytes, 0));
+                }));
+                root.path = root.path.min(clock::best(effort, || {
+                    let _ = black_box(write_path(&record.bytes, last, &mut buffer));
                 }));
             }
         }
@@ -169,6 +175,19 @@ fn measure(
         all.push(measured);
     }
     Ok((all, found))
+}
+
+/// The room for a path, which that of a last node has to fit.
+const PATH: usize = 4_096;
+
+/// The first byte of the last node of a record, whose path can be written.
+fn last_node(record: &Record) -> Result<usize, String> {
+    let matches = list(b"$..*", &record.bytes).map_err(|refusal| refusal.to_string())?;
+    let last = matches.ranges().next_back().map_or(0, |range| range.start);
+    match write_path(&record.bytes, last, &mut [0; PATH]) {
+        Ok(_) => Ok(last),
+        Err(refusal) => Err(format!("{}: {refusal}", record.name)),
+    }
 }
 
 /// The record with one byte too many at its end, which the library has to refuse there, after it has

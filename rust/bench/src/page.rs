@@ -210,8 +210,8 @@ fn walks(results: &Results) -> String {
     table(&head, &rows)
 }
 
-/// The check and the value finder at the root, and how the peers compare with the check where a query
-/// asks for nothing else.
+/// The check, the value finder at the root and the writer of a path at the last node, and how the peers
+/// compare with the check where a query asks for nothing else.
 fn checks(results: &Results) -> String {
     let asks_nothing = |record: &str| {
         let mut of_record = results.large.iter().filter(|measured| measured.job.record == record);
@@ -228,6 +228,7 @@ fn checks(results: &Results) -> String {
             asks_nothing(found.record).map(|measured| figures(measured.check / MILLI))
         }),
         row("the value finder", &|found| Some(figures(found.time / MILLI))),
+        row("the writer of a path", &|found| Some(figures(found.path / MILLI))),
     ];
     let engines = results.engines.iter().enumerate();
     for (at, engine) in engines.filter(|(_, engine)| !engine.is_library()) {

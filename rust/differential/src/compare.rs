@@ -1,7 +1,10 @@
 //! One comparison of each call, and the count of what was compared.
 
 use crate::Engine;
-use oracle::{Answer, Picks, Refusal, Words};
+use oracle::{
+    normalized_path, Answer, Node, NodePath, Picks, Refusal, Tree, Words, Written, MAX_QUERY,
+    MAX_STEPS, NO_GROUND,
+};
 use records::{cases, Random};
 use std::fmt;
 
@@ -34,12 +37,17 @@ pub(crate) fn shown(bytes: &[u8]) -> String {
     format!("b\"{start}\"")
 }
 
-/// The most numbers of a list that a mismatch shows.
+/// The most numbers of a list, or bytes of a buffer, that a mismatch shows.
 const SHOWN_NUMBERS: usize = 8;
 
 /// The answer and the list from its first difference on; places count from the first number lent,
 /// those before it are below 0.
-pub(crate) fn shown_outcome(answer: &str, list: &[u32], other: &[u32], guards: usize) -> String {
+pub(crate) fn shown_outcome<Number: PartialEq + fmt::Debug>(
+    answer: &str,
+    list: &[Number],
+    other: &[Number],
+    guards: usize,
+) -> String {
     match (0..list.len()).find(|&place| list[place] != other[place]) {
         None => format!("{answer}, equal lists"),
         Some(place) => {
@@ -55,6 +63,9 @@ pub(crate) fn shown_outcome(answer: &str, list: &[u32], other: &[u32], guards: u
 pub struct Counts {
     pub lists: [u64; 9],
     pub finds: [u64; 9],
+    pub paths: [u64; 11],
+    /// Paths that were run as queries.
+    pub queries: u64,
     pub sorts: u64,
     pub highest_peak: u32,
 }
@@ -63,11 +74,14 @@ impl fmt::Display for Counts {
     fn fmt(&self, out: &mut fmt::Formatter) -> fmt::Result {
         writeln!(out, "lists by ground 0 to 8: {:?}", self.lists)?;
         writeln!(out, "finds by ground 0 to 8: {:?}", self.finds)?;
+        writeln!(out, "paths by ground 0 to 10: {:?}", self.paths)?;
+        writeln!(out, "paths as queries: {}", self.queries)?;
         write!(out, "sorts: {}, highest peak: {}", self.sorts, self.highest_peak)
     }
 }
 
-/// Numbers on both sides of a lent list, which no call may touch.
+/// Numbers on both sides of a lent list, and bytes on both sides of a lent buffer, which no call may
+/// touch.
 const GUARDS: usize = 2;
 
 /// An engine that is being compared.
@@ -156,6 +170,124 @@ impl<'a> Comparison<'a> {
         Ok(())
     }
 
+    /// The writer of a path at these offsets.
+    pub fn paths(
+        &mut self,
+        random: &mut Random,
+        record: &[u8],
+        offsets: &[usize],
+    ) -> Result<(), Mismatch> {
+        let tree = oracle::taken_tree(record);
+        offsets.iter().try_for_each(|&offset| self.path(random, record, tree.as_ref(), offset))
+    }
+
+    /// The writer of a path at this offset and, if the record is taken, at the first byte of a node; now
+    /// and then a path as a query.
+    pub fn node_paths(
+        &mut self,
+        random: &mut Random,
+        record: &[u8],
+        offset: usize,
+    ) -> Result<(), Mismatch> {
+        let tree = oracle::taken_tree(record);
+        self.path(random, record, tree.as_ref(), offset)?;
+        let Ok(tree) = tree else {
+            return Ok(());
+        };
+        let node = random.one_of(&tree.nodes);
+        self.path(random, record, Ok(&tree), node.start as usize)?;
+        if random.once_in(2) {
+            self.path_as_query(record, &tree, node)?;
+        }
+        Ok(())
+    }
+
+    /// The writer of a path at one offset of a record with this tree: the buffer just long enough, one
+    /// byte short, and longer or empty, with old bytes in it; one of any length where there is no path.
+    fn path(
+        &mut self,
+        random: &mut Random,
+        record: &[u8],
+        tree: Result<&Tree, &Refusal>,
+        offset: usize,
+    ) -> Result<(), Mismatch> {
+        let expected = match tree {
+            Ok(tree) => oracle::path_in(record, tree, offset),
+            Err(refusal) => Err(*refusal),
+        };
+        let lengths = match expected.as_ref().map(|path| path.text.len()) {
+            Ok(exact) => vec![exact, exact - 1, *random.one_of(&[0, exact + 1, exact + 70])],
+            Err(_) => vec![*random.one_of(&[0, 1, 9, 70])],
+        };
+        for length in lengths {
+            let old = cases::buffer(random, length + 2 * GUARDS);
+            self.write_path(&expected, record, offset, &old)?;
+        }
+        Ok(())
+    }
+
+    /// The writer of a path with one buffer; the first and the last bytes of `old` are not lent.
+    fn write_path(
+        &mut self,
+        expected: &Result<NodePath, Refusal>,
+        record: &[u8],
+        offset: usize,
+        old: &[u8],
+    ) -> Result<(), Mismatch> {
+        let lent = GUARDS..old.len() - GUARDS;
+        let mut wanted = old.to_vec();
+        let answer = match expected {
+            Ok(path) => path.write(&mut wanted[lent.clone()]),
+            Err(Refusal { ground, place }) => Written { ground: *ground, place: *place, length: 0 },
+        };
+        let mut buffer = old.to_vec();
+        let found = self.engine.write_path(record, offset, &mut buffer[lent.clone()]);
+        if found != answer || buffer != wanted {
+            let length = lent.len();
+            return Err(Mismatch {
+                call: "write_path",
+                lent: format!("record {} offset {offset} buffer of {length}", shown(record)),
+                expected: shown_outcome(&format!("{answer:?}"), &wanted, &buffer, GUARDS),
+                found: shown_outcome(&format!("{found:?}"), &buffer, &wanted, GUARDS),
+            });
+        }
+        self.counts.paths[answer.ground as usize] += 1;
+        Ok(())
+    }
+
+    /// The path of a node as a query through both walks, if it has at most 16 steps and 1,024 bytes: it
+    /// picks out exactly the nodes whose path is equal.
+    fn path_as_query(&mut self, record: &[u8], tree: &Tree, node: &Node) -> Result<(), Mismatch> {
+        let Ok(path) = normalized_path(record, tree, node) else {
+            return Ok(());
+        };
+        if path.len() > MAX_QUERY || level(tree, node) > MAX_STEPS {
+            return Ok(());
+        }
+        let is_equal = |other: &&Node| normalized_path(record, tree, other).as_ref() == Ok(&path);
+        let equal = tree.nodes.iter().filter(is_equal);
+        let wanted: Vec<u32> = equal.flat_map(|node| [node.start, node.end]).collect();
+        let pairs = wanted.len() as u32 / 2;
+        for call in ["list_plain", "list_jumping"] {
+            let mut list = vec![0; wanted.len()];
+            let found = match call {
+                "list_plain" => self.engine.list_plain(path.as_bytes(), record, &mut list),
+                _ => self.engine.list_jumping(path.as_bytes(), record, &mut list),
+            };
+            if (found.ground, found.place, found.pairs) != (NO_GROUND, 0, pairs) || list != wanted {
+                let (path, record) = (shown(path.as_bytes()), shown(record));
+                return Err(Mismatch {
+                    call,
+                    lent: format!("a path as the query {path} record {record}"),
+                    expected: shown_outcome(&format!("{pairs} nodes"), &wanted, &list, 0),
+                    found: shown_outcome(&format!("{found:?}"), &list, &wanted, 0),
+                });
+            }
+        }
+        self.counts.queries += 1;
+        Ok(())
+    }
+
     /// The block sorter on the first block of the rest; gives back the words.
     pub fn sort(&mut self, rest: &[u8], inside: bool, odd: bool) -> Result<Words, Mismatch> {
         let expected = oracle::sort_block(rest, inside, odd);
@@ -181,4 +313,9 @@ impl<'a> Comparison<'a> {
         }
         Ok(())
     }
+}
+
+/// How many nodes stand above a node.
+fn level(tree: &Tree, node: &Node) -> usize {
+    node.parent.map_or(0, |parent| 1 + level(tree, &tree.nodes[parent as usize]))
 }

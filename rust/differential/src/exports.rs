@@ -2,7 +2,7 @@
 //! every number of an answer is seen.
 
 use crate::Engine;
-use oracle::{Answer, Value, Words};
+use oracle::{Answer, Value, Words, Written};
 use std::ptr;
 use woodcrock::sys::{self, Lister};
 
@@ -47,6 +47,20 @@ impl Engine for Linked {
         let sys::Value { ground, place, end } =
             unsafe { sys::woodcrock_find_value(pointer(record), record.len(), offset) };
         Value { ground, place, end }
+    }
+
+    fn write_path(&self, record: &[u8], offset: usize, buffer: &mut [u8]) -> Written {
+        // SAFETY: as for the listers; the buffer is lent to the call alone.
+        let sys::Written { ground, place, length } = unsafe {
+            sys::woodcrock_write_path(
+                pointer(record),
+                record.len(),
+                offset,
+                buffer.as_mut_ptr(),
+                buffer.len(),
+            )
+        };
+        Written { ground, place, length }
     }
 
     fn sort_block(&self, rest: &[u8], inside: bool, odd: bool) -> Words {

@@ -1,5 +1,6 @@
-//! Differential tests: every number that a call answers and every number of the list afterwards is
-//! compared with the independent implementation of document 01, on inputs made from a seed.
+//! Differential tests: every number that a call answers, and every number of the list and every byte of
+//! the buffer afterwards, is compared with the independent implementation of document 01, on inputs made
+//! from a seed.
 
 mod compare;
 mod exports;
@@ -10,16 +11,17 @@ pub use compare::{Comparison, Counts, Mismatch};
 pub use exports::Linked;
 pub use program::{picklist, Inputs};
 pub use runs::{
-    blocks, deep, frames, long, random, samples, short, DeepCall, DEEP_CALLS, SMALL_STACK,
+    blocks, deep, frames, long, random, samples, short, steps, DeepCall, DEEP_CALLS, SMALL_STACK,
 };
 
-use oracle::{Answer, Value, Words};
+use oracle::{Answer, Value, Words, Written};
 
 /// The calls under test.
 pub trait Engine: Sync {
     fn list_plain(&self, query: &[u8], record: &[u8], list: &mut [u32]) -> Answer;
     fn list_jumping(&self, query: &[u8], record: &[u8], list: &mut [u32]) -> Answer;
     fn find_value(&self, record: &[u8], offset: usize) -> Value;
+    fn write_path(&self, record: &[u8], offset: usize, buffer: &mut [u8]) -> Written;
     fn sort_block(&self, rest: &[u8], inside: bool, odd: bool) -> Words;
 }
 
@@ -37,6 +39,10 @@ impl Engine for Independent {
 
     fn find_value(&self, record: &[u8], offset: usize) -> Value {
         oracle::find_value(record, offset)
+    }
+
+    fn write_path(&self, record: &[u8], offset: usize, buffer: &mut [u8]) -> Written {
+        oracle::write_path(record, offset, buffer)
     }
 
     fn sort_block(&self, rest: &[u8], inside: bool, odd: bool) -> Words {

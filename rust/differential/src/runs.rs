@@ -1,14 +1,14 @@
 //! The runs: random cases, short inputs, blocks, records at the limit of length, frames at every depth,
-//! and nesting at its limit on a small stack.
+//! paths at every depth and at the limits of a query, and nesting at its limit on a small stack.
 
 use crate::compare::{shown, shown_outcome};
 use crate::{Comparison, Engine, Independent, Mismatch};
-use oracle::{Answer, Value, Words, MAX_LEVELS, MAX_RECORD};
+use oracle::{Answer, Value, Words, Written, MAX_LEVELS, MAX_RECORD};
 use records::{cases, large, Random};
 use std::thread;
 
-/// Random queries and records, in number `cases`: both walks, the value finder at a few offsets and
-/// now and then the sorter over the whole record.
+/// Random queries and records, in number `cases`: both walks, the value finder at a few offsets, and
+/// now and then the writer of a path at some, and the sorter over the whole record.
 pub fn random(comparison: &mut Comparison, seed: u64, cases: u64) -> Result<(), Mismatch> {
     let mut random = Random::new(seed);
     for _ in 0..cases {
@@ -26,6 +26,11 @@ pub fn random(comparison: &mut Comparison, seed: u64, cases: u64) -> Result<(), 
         comparison.lists(&mut random, &query, record)?;
         for offset in offsets(&mut random, record) {
             comparison.find(record, offset)?;
+        }
+        if random.once_in(6) {
+            let [_, anywhere, _, past] = offsets(&mut random, record);
+            let offset = *random.one_of(&[anywhere, past]);
+            comparison.node_paths(&mut random, record, offset)?;
         }
         if random.once_in(8) {
             comparison.sorts(record)?;
@@ -91,6 +96,7 @@ pub fn short(comparison: &mut Comparison) -> Result<(), Mismatch> {
     for bytes in all.chain([&[][..]]) {
         comparison.lists(&mut random, b"$..*", bytes)?;
         comparison.find(bytes, 0)?;
+        comparison.paths(&mut random, bytes, &[0])?;
         comparison.lists(&mut random, &[b"$", bytes].concat(), b"{\"a\":[7]}")?;
     }
     comparison.lists(&mut random, b"", b"7")
@@ -120,6 +126,9 @@ pub fn long(comparison: &mut Comparison) -> Result<(), Mismatch> {
             for offset in [1, length - 2, length - 1, usize::MAX] {
                 comparison.find(&record, offset)?;
             }
+            if record.ends_with(BEHIND_BLANKS) {
+                comparison.paths(&mut random, &record, &[length - BEHIND_BLANKS.len()])?;
+            }
             comparison.sort(&record, false, false)?;
             comparison.sort(&record[length - 10..], true, true)?;
         }
@@ -130,6 +139,9 @@ pub fn long(comparison: &mut Comparison) -> Result<(), Mismatch> {
 /// The bytes of the feed at the start of a long record; blanks fill it up.
 const FEED: usize = 1_000_000;
 
+/// The end of a long record, with a value whose path has names and a position.
+const BEHIND_BLANKS: &[u8] = b"8]}}";
+
 /// Records of exactly this many bytes: taken as far as the length goes, or not.
 fn long_records(length: usize) -> Vec<Vec<u8>> {
     let filled = |start: &[u8], byte: u8, end: &[u8]| {
@@ -139,7 +151,7 @@ fn long_records(length: usize) -> Vec<Vec<u8>> {
     vec![
         filled(&large::feed(FEED), b' ', b""),
         filled(b"[\"", b'x', b"\",7]"),
-        filled(b"{\"a\":{\"b\":[\"\\\"\",", b' ', b"8]}}"),
+        filled(b"{\"a\":{\"b\":[\"\\\"\",", b' ', BEHIND_BLANKS),
         filled(b"[1,", b'5', b"]"),
         filled(b"\"", b'x', b""),
         filled(b"[", b'[', b""),
@@ -166,6 +178,42 @@ pub fn frames(comparison: &mut Comparison) -> Result<(), Mismatch> {
     Ok(())
 }
 
+/// What stands at each place of a long name: a single quote, a backslash, a control, an accented letter,
+/// a surrogate pair and half of one.
+const IN_NAMES: [&str; 6] = ["'", r"\\", r"\u001F", "é", r"\ud83d\ude00", r"\ud800"];
+
+/// Paths at every depth, of 15 to 17 steps and of 1,022 to 1,026 bytes, these as queries too; with
+/// positions of one to four digits; and with long names.
+pub fn steps(comparison: &mut Comparison) -> Result<(), Mismatch> {
+    let mut random = Random::new(0);
+    for above in 0..=MAX_LEVELS - 3 {
+        let record = nested(above, r#"{"a":[1,{"it's":7}]}"#);
+        comparison.paths(&mut random, record.as_bytes(), &[above + 8, above + 16])?;
+    }
+    for steps in 15..=17 {
+        let (path, record) = (format!("${}", "[0]".repeat(steps)), nested(steps, "7"));
+        comparison.paths(&mut random, record.as_bytes(), &[steps])?;
+        comparison.lists(&mut random, path.as_bytes(), record.as_bytes())?;
+    }
+    for length in 1_022..=1_026 {
+        let name = "n".repeat(length - "$['']".len());
+        let (path, record) = (format!("$['{name}']"), format!(r#"{{"{name}":7}}"#));
+        comparison.paths(&mut random, record.as_bytes(), &[name.len() + 4])?;
+        comparison.lists(&mut random, path.as_bytes(), record.as_bytes())?;
+    }
+    let record = format!("[{}0]", "0,".repeat(1_000));
+    let positions = [0, 9, 10, 99, 100, 255, 256, 999, 1_000].map(|position| 2 * position + 1);
+    comparison.paths(&mut random, record.as_bytes(), &positions)?;
+    for length in 0..140 {
+        for part in IN_NAMES {
+            let name = format!("{}{part}nnn", "n".repeat(length));
+            let record = format!(r#"{{"{name}":{{"b":7}}}}"#);
+            comparison.paths(&mut random, record.as_bytes(), &[name.len() + 9])?;
+        }
+    }
+    Ok(())
+}
+
 /// A value in so many arrays.
 fn nested(arrays: usize, value: &str) -> String {
     format!("{}{value}{}", "[".repeat(arrays), "]".repeat(arrays))
@@ -180,14 +228,16 @@ pub enum DeepCall {
     Plain,
     Jumping,
     Find,
+    Path,
     Sort,
 }
 
 /// These calls by name.
-pub const DEEP_CALLS: [(&str, DeepCall); 4] = [
+pub const DEEP_CALLS: [(&str, DeepCall); 5] = [
     ("list_plain", DeepCall::Plain),
     ("list_jumping", DeepCall::Jumping),
     ("find_value", DeepCall::Find),
+    ("write_path", DeepCall::Path),
     ("sort_block", DeepCall::Sort),
 ];
 
@@ -222,11 +272,13 @@ pub fn deep(engine: &dyn Engine, call: DeepCall, stack: usize) -> Result<(), Mis
 enum Outcome {
     List(Answer),
     Find(Value),
+    /// And the buffer.
+    Path(Written, Vec<u8>),
     Sort(Words),
 }
 
-/// What a call is made with: the value finder is asked for the offset, the sorter for the first
-/// block.
+/// What a call is made with: the value finder and the writer of a path are asked for the offset, the
+/// sorter for the first block.
 #[derive(Clone, Copy)]
 struct Lent<'a> {
     query: &'a [u8],
@@ -241,6 +293,10 @@ impl DeepCall {
             DeepCall::Plain => Outcome::List(engine.list_plain(query, record, list)),
             DeepCall::Jumping => Outcome::List(engine.list_jumping(query, record, list)),
             DeepCall::Find => Outcome::Find(engine.find_value(record, offset)),
+            DeepCall::Path => {
+                let mut buffer = vec![b'.'; 6 * MAX_LEVELS];
+                Outcome::Path(engine.write_path(record, offset, &mut buffer), buffer)
+            }
             DeepCall::Sort => Outcome::Sort(engine.sort_block(record, false, false)),
         }
     }

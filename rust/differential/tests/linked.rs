@@ -1,13 +1,13 @@
 //! The calls that are linked in, with a fixed seed and a bounded number of cases.
 
 use differential::{
-    blocks, deep, frames, long, random, samples, short, Comparison, Counts, Linked, Mismatch,
-    DEEP_CALLS, SMALL_STACK,
+    blocks, deep, frames, long, random, samples, short, steps, Comparison, Counts, Linked,
+    Mismatch, DEEP_CALLS, SMALL_STACK,
 };
 use std::ptr::{null, null_mut, NonNull};
 use woodcrock::sys::{
     woodcrock_find_value, woodcrock_list_jumping, woodcrock_list_plain, woodcrock_sort_block,
-    Lister,
+    woodcrock_write_path, Lister,
 };
 
 const SEED: u64 = 1;
@@ -28,7 +28,8 @@ fn random_cases() {
     println!("{counts}");
     assert!([0, 1, 2, 3, 5, 6, 7].iter().all(|&ground: &usize| counts.lists[ground] > 20));
     assert!([0, 5, 6, 8].iter().all(|&ground: &usize| counts.finds[ground] > 20));
-    assert!(counts.highest_peak > 300 && counts.sorts > 1_000);
+    assert!([0, 5, 6, 8, 9, 10].iter().all(|&ground: &usize| counts.paths[ground] > 20));
+    assert!(counts.highest_peak > 300 && counts.sorts > 1_000 && counts.queries > 500);
 }
 
 #[test]
@@ -53,12 +54,20 @@ fn records_at_the_limit_of_length() {
     let counts = compared(long);
     assert!([0, 2, 4, 5, 6].iter().all(|&ground: &usize| counts.lists[ground] > 0));
     assert!([0, 4, 5, 6, 8].iter().all(|&ground: &usize| counts.finds[ground] > 0));
+    assert!([0, 4, 10].iter().all(|&ground: &usize| counts.paths[ground] > 0));
 }
 
 #[test]
 fn frames_at_every_depth() {
     let counts = compared(frames);
     assert!(counts.lists[0] > 2_000 && counts.highest_peak == 2);
+}
+
+#[test]
+fn paths_at_every_depth_and_at_the_limits_of_a_query() {
+    let counts = compared(steps);
+    assert!([0, 1, 3].iter().all(|&ground: &usize| counts.lists[ground] > 0));
+    assert!([0, 9, 10].iter().all(|&ground: &usize| counts.paths[ground] > 100));
 }
 
 #[test]
@@ -74,6 +83,14 @@ fn nesting_at_its_limit_on_a_small_stack() {
 #[test]
 fn empty_parts() {
     let (nowhere, nowhere_mut) = (NonNull::<u8>::dangling().as_ptr(), NonNull::<u32>::dangling());
+    for buffer in [null_mut(), nowhere] {
+        // SAFETY: every length goes with its pointer.
+        let no_record = unsafe { woodcrock_write_path(null(), 0, 3, buffer, 0) };
+        assert_eq!((no_record.ground, no_record.place, no_record.length), (5, 0, 0));
+        let record = b" 7";
+        let no_room = unsafe { woodcrock_write_path(record.as_ptr(), 2, 1, buffer, 0) };
+        assert_eq!((no_room.ground, no_room.place, no_room.length), (10, 1, 0));
+    }
     for bytes in [null(), nowhere.cast_const()] {
         for list in [null_mut(), nowhere_mut.as_ptr()] {
             for lister in [woodcrock_list_plain as Lister, woodcrock_list_jumping] {

@@ -2,11 +2,15 @@
 //! one fault, and each fault has to be found within the number of cases that the tests run.
 
 use differential::{blocks, deep, frames, long, random, Comparison, DeepCall, Engine, Mismatch};
-use oracle::{Answer, Node, Refusal, Selector, Step, Tree, Value, Words, MAX_POSITION};
+use oracle::{
+    normalized_path, Answer, Node, Refusal, Selector, Step, Tree, Value, Words, Written,
+    MAX_POSITION,
+};
 
 const CASES: u64 = 10_000;
 
 type List = fn(&[u8], &[u8], &mut [u32]) -> Answer;
+type WritePath = fn(&[u8], usize, &mut [u8]) -> Written;
 type Sort = fn(&[u8], bool, bool) -> Words;
 
 /// An engine with a fault in one of its calls.
@@ -14,6 +18,7 @@ struct Mutant {
     plain: List,
     jumping: List,
     find: fn(&[u8], usize) -> Value,
+    path: WritePath,
     sort: Sort,
 }
 
@@ -21,6 +26,7 @@ const RIGHT: Mutant = Mutant {
     plain: oracle::list,
     jumping: oracle::list,
     find: oracle::find_value,
+    path: oracle::write_path,
     sort: oracle::sort_block,
 };
 
@@ -35,6 +41,10 @@ impl Engine for Mutant {
 
     fn find_value(&self, record: &[u8], offset: usize) -> Value {
         (self.find)(record, offset)
+    }
+
+    fn write_path(&self, record: &[u8], offset: usize, buffer: &mut [u8]) -> Written {
+        (self.path)(record, offset, buffer)
     }
 
     fn sort_block(&self, rest: &[u8], inside: bool, odd: bool) -> Words {
@@ -344,7 +354,7 @@ fn positions_that_no_query_may_have() {
     // A leading zero.
     found_in_lists(|query, record, list| {
         with_query(query, record, list, |query, place| {
-            [&query[..place - 1], &query[place..]].concat()
+            [&query[..place.saturating_sub(1)], &query[place..]].concat()
         })
     });
     // 2^53.
@@ -447,6 +457,255 @@ fn faults_of_the_finder() {
     found(|record, offset| match oracle::find_value(record, offset) {
         Value { ground: 8, place, end } => Value { ground: 8, place: place as u32 as usize, end },
         value => value,
+    });
+}
+
+/// Asserts that a fault of the writer of a path is found.
+fn found_in_paths(path: WritePath) {
+    found_in("write_path", Mutant { path, ..RIGHT });
+}
+
+/// A path with this text in the place of the right one.
+fn with_text_of_path(
+    record: &[u8],
+    offset: usize,
+    buffer: &mut [u8],
+    text: impl Fn(String) -> String,
+) -> Written {
+    match oracle::path(record, offset) {
+        Err(Refusal { ground, place }) => Written { ground, place, length: 0 },
+        Ok(path) => oracle::NodePath { text: text(path.text), ..path }.write(buffer),
+    }
+}
+
+/// A path by another way, or another place of half of a pair, in the place of the right one.
+fn with_way(
+    record: &[u8],
+    offset: usize,
+    buffer: &mut [u8],
+    path: impl Fn(&Tree, &Node) -> Result<String, usize>,
+) -> Written {
+    let found = oracle::find_value(record, offset);
+    if found.ground != 0 {
+        return Written { ground: found.ground, place: found.place, length: 0 };
+    }
+    let tree = Tree::of(record).unwrap();
+    let node = tree.nodes.iter().find(|node| node.start as usize == offset).unwrap();
+    match path(&tree, node) {
+        Ok(text) => oracle::NodePath { text, node: offset }.write(buffer),
+        Err(place) => Written { ground: 9, place, length: 0 },
+    }
+}
+
+#[test]
+fn faults_of_characters_in_paths() {
+    // Another quote.
+    found_in_paths(|record, offset, buffer| {
+        with_text_of_path(record, offset, buffer, |text| text.replace('\'', "\""))
+    });
+    // An escape forgotten: of a quote, of a backslash, and of a control.
+    found_in_paths(|record, offset, buffer| {
+        with_text_of_path(record, offset, buffer, |text| text.replace(r"\'", "'"))
+    });
+    found_in_paths(|record, offset, buffer| {
+        with_text_of_path(record, offset, buffer, |text| text.replace(r"\\", r"\"))
+    });
+    found_in_paths(|record, offset, buffer| {
+        with_text_of_path(record, offset, buffer, |text| text.replace(r"\u000b", "\u{B}"))
+    });
+    // An escape too many: of the other quote, of a slash, and of 7F.
+    found_in_paths(|record, offset, buffer| {
+        with_text_of_path(record, offset, buffer, |text| text.replace('"', "\\\""))
+    });
+    found_in_paths(|record, offset, buffer| {
+        with_text_of_path(record, offset, buffer, |text| text.replace('/', r"\/"))
+    });
+    found_in_paths(|record, offset, buffer| {
+        with_text_of_path(record, offset, buffer, |text| text.replace('\u{7F}', r"\u007f"))
+    });
+    // A control by digits that has a letter, and digits in upper case.
+    found_in_paths(|record, offset, buffer| {
+        with_text_of_path(record, offset, buffer, |text| text.replace(r"\b", r"\u0008"))
+    });
+    found_in_paths(|record, offset, buffer| {
+        with_text_of_path(record, offset, buffer, |text| {
+            text.replace(r"\u000b", r"\u000B").replace(r"\u000e", r"\u000E")
+        })
+    });
+    // A name as it is written in the record.
+    found_in_paths(|record, offset, buffer| {
+        with_way(record, offset, buffer, |tree, node| {
+            let path = normalized_path(record, tree, node)?;
+            let Some(name) = node.name_in(record).filter(|name| name.contains(&b'\\')) else {
+                return Ok(path);
+            };
+            let above = &tree.nodes[node.parent.unwrap() as usize];
+            let above = normalized_path(record, tree, above)?;
+            Ok(format!("{above}['{}']", String::from_utf8_lossy(name)))
+        })
+    });
+}
+
+#[test]
+fn faults_of_the_way_in_paths() {
+    // A position that is one too high, and one that goes on from the array around.
+    found_in_paths(|record, offset, buffer| {
+        with_way(record, offset, buffer, |tree, node| {
+            let counted = |node: &Node| Node { position: node.position.map(|j| j + 1), ..*node };
+            let other = Tree { nodes: tree.nodes.iter().map(counted).collect() };
+            normalized_path(record, &other, &counted(node))
+        })
+    });
+    found_in_paths(|record, offset, buffer| {
+        with_text_of_path(record, offset, buffer, |text| text.replace("[1][0]", "[1][1]"))
+    });
+    // A position of one digit.
+    found_in_paths(|record, offset, buffer| {
+        with_text_of_path(record, offset, buffer, |text| text.replace("[10]", "[0]"))
+    });
+    // The path of the parent.
+    found_in_paths(|record, offset, buffer| {
+        with_way(record, offset, buffer, |tree, node| {
+            let parent = node.parent.map_or(node, |parent| &tree.nodes[parent as usize]);
+            normalized_path(record, tree, parent)
+        })
+    });
+    // The path of the first node that has the same name or position.
+    found_in_paths(|record, offset, buffer| {
+        with_way(record, offset, buffer, |tree, node| {
+            let label = |node: &Node| (node.name_points(record), node.position);
+            let first = tree.nodes.iter().find(|other| label(other) == label(node)).unwrap();
+            normalized_path(record, tree, first)
+        })
+    });
+    // Steps from the node up to the root.
+    found_in_paths(|record, offset, buffer| {
+        with_text_of_path(record, offset, buffer, |text| {
+            let steps = text.split_inclusive(']').map(|step| step.trim_start_matches('$'));
+            let steps: Vec<&str> = steps.collect();
+            format!("${}", steps.into_iter().rev().collect::<String>())
+        })
+    });
+}
+
+/// The place of the innermost name with half of a surrogate pair, on the way from the root to a node.
+fn innermost_half(record: &[u8], tree: &Tree, node: &Node) -> Option<usize> {
+    let points = node.name_points(record).unwrap_or_default();
+    if points.iter().any(|point| (0xD800..0xE000).contains(point)) {
+        return node.name.map(|(start, _)| start as usize - 1);
+    }
+    innermost_half(record, tree, &tree.nodes[node.parent? as usize])
+}
+
+#[test]
+fn faults_of_halves_in_paths() {
+    // A half that is passed over: each, and each above an element.
+    found_in_paths(|record, offset, buffer| match oracle::path(record, offset) {
+        Err(Refusal { ground: 9, .. }) => {
+            oracle::NodePath { text: "$".to_string(), node: offset }.write(buffer)
+        }
+        _ => oracle::write_path(record, offset, buffer),
+    });
+    found_in_paths(|record, offset, buffer| {
+        with_way(record, offset, buffer, |tree, node| match normalized_path(record, tree, node) {
+            Err(_) if node.position.is_some() => Ok("$".to_string()),
+            path => path,
+        })
+    });
+    // The innermost half in the place of the outermost.
+    found_in_paths(|record, offset, buffer| {
+        with_way(record, offset, buffer, |tree, node| {
+            let path = normalized_path(record, tree, node);
+            path.map_err(|place| innermost_half(record, tree, node).unwrap_or(place))
+        })
+    });
+    // The place of the name's first character, of the node, and of the first such name in the record.
+    found_in_paths(|record, offset, buffer| {
+        with_way(record, offset, buffer, |tree, node| {
+            normalized_path(record, tree, node).map_err(|place| place + 1)
+        })
+    });
+    found_in_paths(|record, offset, buffer| {
+        with_way(record, offset, buffer, |tree, node| {
+            normalized_path(record, tree, node).map_err(|_| offset)
+        })
+    });
+    found_in_paths(|record, offset, buffer| {
+        with_way(record, offset, buffer, |tree, node| {
+            let halves = tree.nodes.iter().filter_map(|node| innermost_half(record, tree, node));
+            normalized_path(record, tree, node).map_err(|place| halves.min().unwrap_or(place))
+        })
+    });
+    // A half beside the way.
+    found_in_paths(|record, offset, buffer| {
+        with_way(record, offset, buffer, |tree, node| {
+            let beside = |other: &&Node| other.parent == node.parent && other.start < node.start;
+            let mut beside = tree.nodes.iter().filter(beside);
+            match beside.find_map(|node| innermost_half(record, tree, node)) {
+                Some(place) => Err(place),
+                None => normalized_path(record, tree, node),
+            }
+        })
+    });
+    // Ground 10 before ground 9.
+    found_in_paths(|record, offset, buffer| match oracle::path(record, offset) {
+        Err(Refusal { ground: 9, .. }) if buffer.len() < 5 => {
+            Written { ground: 10, place: offset, length: 0 }
+        }
+        _ => oracle::write_path(record, offset, buffer),
+    });
+}
+
+#[test]
+fn faults_of_the_buffer_of_a_path() {
+    // As much as there is room for, on ground 10; and the first byte alone.
+    found_in_paths(|record, offset, buffer| {
+        let written = oracle::write_path(record, offset, buffer);
+        if let (10, Ok(path)) = (written.ground, oracle::path(record, offset)) {
+            let length = buffer.len();
+            buffer.copy_from_slice(&path.text.as_bytes()[..length]);
+        }
+        written
+    });
+    found_in_paths(|record, offset, buffer| {
+        let written = oracle::write_path(record, offset, buffer);
+        if let (10, Some(first)) = (written.ground, buffer.first_mut()) {
+            *first = b'$';
+        }
+        written
+    });
+    // A zero byte behind the path, and the rest cleared.
+    found_in_paths(|record, offset, buffer| {
+        let written = oracle::write_path(record, offset, buffer);
+        if let Some(next) = buffer.get_mut(written.length) {
+            *next = 0;
+        }
+        written
+    });
+    found_in_paths(|record, offset, buffer| {
+        let written = oracle::write_path(record, offset, buffer);
+        if written.ground == 0 {
+            buffer[written.length..].fill(0);
+        }
+        written
+    });
+    // A buffer that is just long enough refused, and a length in a refusal.
+    found_in_paths(|record, offset, buffer| match oracle::path(record, offset) {
+        Ok(path) if path.text.len() == buffer.len() => {
+            Written { ground: 10, place: offset, length: 0 }
+        }
+        _ => oracle::write_path(record, offset, buffer),
+    });
+    found_in_paths(|record, offset, buffer| match oracle::write_path(record, offset, buffer) {
+        Written { ground: 10, place, .. } => {
+            let length = oracle::path(record, offset).map_or(0, |path| path.text.len());
+            Written { ground: 10, place, length }
+        }
+        written => written,
+    });
+    // An offset cut to 32 bits.
+    found_in_paths(|record, offset, buffer| {
+        oracle::write_path(record, offset as u32 as usize, buffer)
     });
 }
 
@@ -619,4 +878,11 @@ fn a_wrong_answer_on_a_small_stack() {
     let mutant = Mutant { find: |_, offset| Value { ground: 8, place: offset, end: 0 }, ..RIGHT };
     assert!(deep(&mutant, DeepCall::Find, differential::SMALL_STACK).is_err());
     assert!(deep(&mutant, DeepCall::Plain, differential::SMALL_STACK).is_ok());
+    let path: WritePath = |record, offset, buffer| {
+        let written = oracle::write_path(record, offset, buffer);
+        buffer.reverse();
+        written
+    };
+    let mutant = Mutant { path, ..RIGHT };
+    assert!(deep(&mutant, DeepCall::Path, differential::SMALL_STACK).is_err());
 }

@@ -1,8 +1,9 @@
 //! The answers of the lister, the value finder and the value reader (document 01, "Grounds for
-//! refusing").
+//! refusing"), and of the writer of a node's path (change request S-4).
 
-use crate::json::{dead_byte, first_bracket_of_level, Tree};
+use crate::json::{dead_byte, first_bracket_of_level, Node, Tree};
 use crate::meaning::{peak, picked};
+use crate::paths::normalized_path;
 use crate::query::taken_steps;
 
 /// The most bytes of a record that is taken.
@@ -36,6 +37,14 @@ pub struct Value {
     pub end: usize,
 }
 
+/// The three numbers that the writer of a path answers.
+#[derive(Clone, Copy, PartialEq, Eq, Debug)]
+pub struct Written {
+    pub ground: u32,
+    pub place: usize,
+    pub length: usize,
+}
+
 /// The nodes that a query picks out, as pairs in the order of their first bytes, and the peak.
 #[derive(Clone, PartialEq, Eq, Debug)]
 pub struct Picks {
@@ -45,7 +54,7 @@ pub struct Picks {
 
 /// The tree of a record that is taken, or the first of grounds 4 to 6 that fits it, where the
 /// smaller place decides between 5 and 6.
-fn taken_tree(record: &[u8]) -> Result<Tree, Refusal> {
+pub fn taken_tree(record: &[u8]) -> Result<Tree, Refusal> {
     if record.len() > MAX_RECORD {
         return Err(Refusal { ground: 4, place: MAX_RECORD });
     }
@@ -98,15 +107,18 @@ pub fn list(query: &[u8], record: &[u8], list: &mut [u32]) -> Answer {
     }
 }
 
+/// The node whose first byte stands at the offset, or ground 8.
+fn node_at(tree: &Tree, offset: usize) -> Result<&Node, Refusal> {
+    let node = tree.nodes.iter().find(|node| node.start as usize == offset);
+    node.ok_or(Refusal { ground: 8, place: offset })
+}
+
 /// The value finder: the end of the value whose first byte stands at the offset.
 pub fn find_value(record: &[u8], offset: usize) -> Value {
-    let tree = match taken_tree(record) {
-        Ok(tree) => tree,
-        Err(Refusal { ground, place }) => return Value { ground, place, end: 0 },
-    };
-    match tree.nodes.iter().find(|node| node.start as usize == offset) {
-        Some(node) => Value { ground: NO_GROUND, place: 0, end: node.end as usize },
-        None => Value { ground: 8, place: offset, end: 0 },
+    let end = taken_tree(record).and_then(|tree| Ok(node_at(&tree, offset)?.end as usize));
+    match end {
+        Ok(end) => Value { ground: NO_GROUND, place: 0, end },
+        Err(Refusal { ground, place }) => Value { ground, place, end: 0 },
     }
 }
 
@@ -115,5 +127,50 @@ pub fn read_value(record: &[u8], offset: usize) -> &[u8] {
     match find_value(record, offset) {
         Value { ground: NO_GROUND, end, .. } => &record[offset..end],
         _ => &[],
+    }
+}
+
+/// A node's path, and the node's first byte.
+#[derive(Clone, PartialEq, Eq, Debug)]
+pub struct NodePath {
+    pub text: String,
+    pub node: usize,
+}
+
+/// The path of the node whose first byte stands at the offset, or the first of grounds 4 to 6, 8 and 9
+/// that fits.
+pub fn path(record: &[u8], offset: usize) -> Result<NodePath, Refusal> {
+    path_in(record, &taken_tree(record)?, offset)
+}
+
+/// The same for a record that is taken, with its tree.
+pub fn path_in(record: &[u8], tree: &Tree, offset: usize) -> Result<NodePath, Refusal> {
+    let node = node_at(tree, offset)?;
+    match normalized_path(record, tree, node) {
+        Ok(text) => Ok(NodePath { text, node: offset }),
+        Err(place) => Err(Refusal { ground: 9, place }),
+    }
+}
+
+impl NodePath {
+    /// Writes the path to the start of a buffer and answers; ground 10 where it is longer than the
+    /// buffer, which then stays as it was.
+    pub fn write(&self, buffer: &mut [u8]) -> Written {
+        let length = self.text.len();
+        match buffer.get_mut(..length) {
+            Some(start) => {
+                start.copy_from_slice(self.text.as_bytes());
+                Written { ground: NO_GROUND, place: 0, length }
+            }
+            None => Written { ground: 10, place: self.node, length: 0 },
+        }
+    }
+}
+
+/// The writer of a node's path: its three answers, and the buffer as it leaves it.
+pub fn write_path(record: &[u8], offset: usize, buffer: &mut [u8]) -> Written {
+    match path(record, offset) {
+        Ok(path) => path.write(buffer),
+        Err(Refusal { ground, place }) => Written { ground, place, length: 0 },
     }
 }

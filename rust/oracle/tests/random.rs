@@ -1,8 +1,9 @@
 //! What the papers say in more than one way, on random cases: both ways have to agree.
 
 use oracle::{
-    find_value, list, marks, picks, read_value, sort_block, taken_steps, takes, Answer, Kind, Node,
-    Picks, Refusal, Selector, Step, Tree, Value, Words, BLOCK, NO_GROUND,
+    find_value, list, marks, normalized_path, picked, picks, read_steps, read_value, sort_block,
+    taken_steps, takes, write_path, Answer, Kind, Node, Picks, Refusal, Selector, Step, Tree,
+    Value, Words, Written, BLOCK, NO_GROUND,
 };
 use records::{cases, large, Random};
 use std::collections::BTreeSet;
@@ -212,6 +213,69 @@ fn the_finder_knows_every_node_and_no_other_offset() {
             }
         }
     }
+}
+
+/// Whether the name of a node has half of a surrogate pair.
+fn has_half(record: &[u8], node: &Node) -> bool {
+    let points = node.name_points(record).unwrap_or_default();
+    points.iter().any(|point| (0xD800..0xE000).contains(point))
+}
+
+/// The place of the opening quote of the outermost name with half of a pair, from the node upwards.
+fn outermost_half(record: &[u8], tree: &Tree, node: &Node) -> Option<usize> {
+    let above = node.parent.map(|parent| &tree.nodes[parent as usize]);
+    let above = above.and_then(|parent| outermost_half(record, tree, parent));
+    above.or_else(|| has_half(record, node).then(|| node.name.unwrap().0 as usize - 1))
+}
+
+#[test]
+fn a_path_is_a_query_for_the_nodes_of_that_path() {
+    let (mut compared, mut shared, mut halves) = (0, 0, 0);
+    for (_, record, tree, _) in taken_cases(9).filter(|(.., tree, _)| tree.nodes.len() <= 40) {
+        let path = |node: &Node| normalized_path(&record, &tree, node);
+        let paths: Vec<Result<String, usize>> = tree.nodes.iter().map(path).collect();
+        for (node, path) in tree.nodes.iter().zip(&paths) {
+            assert_eq!(path.as_ref().err(), outermost_half(&record, &tree, node).as_ref());
+            let Ok(text) = path else {
+                halves += 1;
+                continue;
+            };
+            let steps = read_steps(text.as_bytes()).unwrap();
+            assert!(steps.iter().all(|step| !step.deep && step.selector != Selector::Every));
+            let equal: Vec<bool> = paths.iter().map(|other| other == path).collect();
+            assert_eq!(picked(&steps, &record, &tree), equal, "{text}");
+            assert!(text.len() <= 2 * record.len());
+            shared += usize::from(equal.iter().filter(|equal| **equal).count() > 1);
+            compared += 1;
+        }
+    }
+    assert!(compared > 20_000 && shared > 1_000 && halves > 1_000, "{compared} {shared} {halves}");
+}
+
+#[test]
+fn the_writer_goes_on_where_the_finder_ends() {
+    let mut random = Random::new(10);
+    let mut by_ground = [0; 11];
+    for _ in 0..CASES / 4 {
+        let (_, record) = random_case(&mut random);
+        let offset = random.below(record.len() + 2);
+        let old: Vec<u8> = (0..random.below(80)).map(|_| random.bits() as u8).collect();
+        let mut buffer = old.clone();
+        let written = write_path(&record, offset, &mut buffer);
+        let Written { ground, place, length } = written;
+        let found = find_value(&record, offset);
+        match ground {
+            9 | 10 => assert_eq!(found.ground, NO_GROUND),
+            _ => assert_eq!((ground, place), (found.ground, found.place)),
+        }
+        assert_eq!(buffer[length..], old[length..]);
+        assert_eq!(ground == NO_GROUND, length > 0);
+        by_ground[ground as usize] += 1;
+    }
+    assert!(
+        [0, 5, 6, 8, 9, 10].iter().all(|&ground: &usize| by_ground[ground] > 20),
+        "{by_ground:?}"
+    );
 }
 
 /// The sorter as a machine that reads the block once.

@@ -1,4 +1,4 @@
-//! Random cases for tests: queries and records, whole and damaged, lists and blocks.
+//! Random cases for tests: queries and records, whole and damaged, lists, buffers and blocks.
 
 use crate::Random;
 
@@ -29,8 +29,8 @@ const FAR_POSITIONS: [&str; 8] = [
 const NO_QUERY_NAME: &str = "private notes";
 
 /// Names that only records can hold, as they are written: with half of a surrogate pair; and some
-/// with escapes that names of queries come near to.
-const RECORD_NAMES: [&str; 10] = [
+/// with escapes that names of queries come near to, and that paths write in another way.
+const RECORD_NAMES: [&str; 13] = [
     r"\uD800",
     r"\ud83d\ud83d\ude00",
     r"\uDE00\uD83D",
@@ -41,6 +41,9 @@ const RECORD_NAMES: [&str; 10] = [
     r#"a\":{"#,
     r"\\\\",
     r"\u00610",
+    r"\u0000\u000B",
+    r"\u000e\u001F\u0020",
+    r"'\u0027\\'",
 ];
 
 /// Escapes that no quoted name may have, all or nearly all of them.
@@ -76,11 +79,12 @@ pub type Names = &'static [&'static str];
 pub fn names(random: &mut Random) -> Names {
     match random.below(8) {
         0 => &NAMES[..1],
-        1..=3 => &NAMES[..2],
+        1..=2 => &NAMES[..2],
+        3 => &NAMES[16..],
         4 => &NAMES[..3],
         5 => &NAMES[2..5],
-        6 if random.once_in(2) => &NAMES[16..],
         6 => &LONG_NAMES,
+        _ if random.once_in(2) => &NAMES[16..],
         _ => &NAMES,
     }
 }
@@ -497,6 +501,15 @@ pub fn record(random: &mut Random, names: Names) -> Vec<u8> {
 /// A list of this many numbers with old contents.
 pub fn list(random: &mut Random, numbers: usize) -> Vec<u32> {
     (0..numbers).map(|_| random.bits() as u32).collect()
+}
+
+/// A buffer of this many bytes with old contents.
+pub fn buffer(random: &mut Random, bytes: usize) -> Vec<u8> {
+    let mut buffer = vec![0; bytes];
+    for part in buffer.chunks_mut(8) {
+        part.copy_from_slice(&random.bits().to_le_bytes()[..part.len()]);
+    }
+    buffer
 }
 
 /// Bytes for the block sorter, of up to two blocks: mostly quotes, backslashes and brackets.

@@ -1,4 +1,4 @@
-//! Records, queries and lists made from a seed: the same seed gives the same bytes everywhere.
+//! Records, queries, lists and buffers made from a seed: the same seed gives the same bytes everywhere.
 
 pub mod cases;
 pub mod large;

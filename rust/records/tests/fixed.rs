@@ -38,6 +38,7 @@ fn the_random_cases() {
         bytes.extend(cases::record(&mut random, names));
         bytes.extend(cases::block(&mut random));
         bytes.extend(cases::list(&mut random, numbers % 5).iter().flat_map(|n| n.to_le_bytes()));
+        bytes.extend(cases::buffer(&mut random, numbers % 19));
     }
-    assert_eq!((bytes.len(), fingerprint(&bytes)), (1_732_508, 8_336_236_756_094_651_863));
+    assert_eq!((bytes.len(), fingerprint(&bytes)), (1_837_163, 1_341_505_412_438_602_254));
 }

@@ -7,7 +7,10 @@
 pub mod notation;
 pub mod picklist;
 
-use oracle::{find_value, list, read_value, sort_block, Answer, Value, Words, BLOCK};
+use oracle::{
+    find_value, list, read_value, sort_block, write_path, Answer, Value, Words, Written, BLOCK,
+    NO_GROUND,
+};
 
 /// The cases of `samples`.
 pub const CASES: &str = include_str!("../../../crates/samples/stdin");
@@ -21,7 +24,11 @@ const OLD: u32 = 7777;
 /// The most numbers of a list.
 const MAX_NUMBERS: usize = 64;
 
-/// What the lines of a file have set so far, and how many of them made calls.
+/// What a buffer holds before a call, at each place.
+const OLD_BYTE: u8 = b'.';
+
+/// What the lines of a file have set so far, and how many of them made calls. The numbers of a list
+/// are also the bytes of a buffer.
 #[derive(Default)]
 struct State {
     record: Vec<u8>,
@@ -62,6 +69,22 @@ pub fn walks_with(answer: &Answer, numbers: impl IntoIterator<Item = u32>, size:
     walks(answer, &list)
 }
 
+/// The line below a node: the three answers of the writer of paths, and the buffer as it leaves it.
+fn path_line(answer: &Written, buffer: &[u8]) -> String {
+    let Written { ground, place, length } = *answer;
+    let three = spaced([u64::from(ground), place as u64, length as u64]);
+    let end = buffer.iter().rposition(|&byte| byte != OLD_BYTE).map_or(0, |last| last + 1);
+    let left = String::from_utf8_lossy(&buffer[..end]);
+    format!("  path{three} `{left}` rest {}\n", buffer.len() - end)
+}
+
+/// The same where this path was written into a buffer of so many bytes.
+pub fn path_with(path: &str, size: usize) -> String {
+    let mut buffer = path.as_bytes().to_vec();
+    buffer.resize(size, OLD_BYTE);
+    path_line(&Written { ground: NO_GROUND, place: 0, length: path.len() }, &buffer)
+}
+
 fn number(text: &str) -> Result<usize, String> {
     text.parse().map_err(|_| "no number".to_string())
 }
@@ -88,6 +111,7 @@ impl State {
         match word {
             "query" => Ok(self.listers(&notation::bytes(text)?)),
             "value" => Ok(self.value(number(text)?)),
+            "path" => Ok(self.path(number(text)?)),
             "blocks" => Ok(self.blocks()),
             _ => Err("no word of a line".to_string()),
         }
@@ -105,6 +129,12 @@ impl State {
         let three = spaced([u64::from(ground), place as u64, end as u64]);
         let read = String::from_utf8_lossy(read_value(&self.record, offset));
         format!("  finder{three}\n  reader `{read}`\n")
+    }
+
+    /// The writer of paths.
+    fn path(&self, offset: usize) -> String {
+        let mut buffer = vec![OLD_BYTE; self.numbers];
+        path_line(&write_path(&self.record, offset, &mut buffer), &buffer)
     }
 
     /// The block sorter, on all blocks of the record.

@@ -157,5 +157,5 @@ fn the_output_has_the_values() {
 
 #[test]
 fn the_number_of_cases() {
-    assert!(output(CASES).unwrap().ends_with("\n472 cases\n"));
+    assert!(output(CASES).unwrap().ends_with("\n534 cases\n"));
 }

@@ -1,12 +1,15 @@
-//! Each vector as a case for the listers: what they are lent and what they have to answer.
+//! Each vector as a case for the listers, and for the writer of paths: what they are lent and what
+//! they have to answer.
 //!
 //! The nodes that a case expects are those of the vector, located in the text of its document by
-//! its own paths. The `oracle` crate has to pick out the same ones; it alone gives the peak and the
-//! place of a refusal, by its own reading of the grammar.
+//! its own paths, which are also what the writer of paths has to write for them. The `oracle` crate has
+//! to pick out the same ones, and to give them these paths; it alone gives the peak and the place of a
+//! refusal, by its own reading of the grammar.
 
 use crate::suite::{Alternative, Claim, Vector};
 use crate::value::{normalized_path, Span, Value, Written};
-use oracle::{picks, taken_steps, Answer, Refusal, NO_GROUND};
+use oracle::{path, picks, taken_steps, Answer, Refusal, NO_GROUND};
+use std::collections::BTreeSet;
 
 /// How a vector is taken over.
 #[derive(Clone, Copy, PartialEq, Eq, Debug)]
@@ -53,6 +56,9 @@ pub struct Case {
     pub answer: Answer,
     pub pairs: Vec<Span>,
     pub sort: Sort,
+    /// The first byte and the path of each node of the vector's results, also where its query is left
+    /// out.
+    pub paths: Vec<(u32, String)>,
 }
 
 /// Makes the case of a vector, or says why the vector contradicts this reading of the papers.
@@ -76,7 +82,7 @@ fn refused(vector: &Vector, record: String, refusal: Refusal, sort: Sort) -> Cas
     let Refusal { ground, place } = refusal;
     let answer = Answer { ground, place: place as u32, pairs: 0, peak: 0 };
     let (name, query) = (vector.name.clone(), vector.query.clone());
-    Case { name, query, record, answer, pairs: Vec::new(), sort }
+    Case { name, query, record, answer, pairs: Vec::new(), sort, paths: Vec::new() }
 }
 
 /// A query of RFC 9535, in this grammar or left out of it.
@@ -86,14 +92,16 @@ fn valid(vector: &Vector, document: &Value, alternatives: &[Alternative]) -> Res
     }
     let mut written = Written::default();
     written.value(document);
-    if let Err(refusal) = taken_steps(vector.query.as_bytes()) {
-        let reason = left_out(&vector.query, refusal)?;
-        return Ok(refused(vector, written.text, refusal, Sort::LeftOut(reason)));
-    }
     let located: Vec<Vec<Span>> = alternatives
         .iter()
         .map(|alternative| locate(alternative, &written))
         .collect::<Result<_, _>>()?;
+    let paths = paths(alternatives, &located);
+    if let Err(refusal) = taken_steps(vector.query.as_bytes()) {
+        let reason = left_out(&vector.query, refusal)?;
+        let case = refused(vector, written.text, refusal, Sort::LeftOut(reason));
+        return Ok(Case { paths, ..case });
+    }
     let pairs = once_by_first_byte(&located[0]);
     if located.iter().any(|spans| once_by_first_byte(spans) != pairs) {
         return Err("the results differ in more than order and repetition".to_string());
@@ -113,7 +121,7 @@ fn valid(vector: &Vector, document: &Value, alternatives: &[Alternative]) -> Res
     let (place, peak) = (0, picks.peak);
     let answer = Answer { ground: NO_GROUND, place, pairs: pairs.len() as u32, peak };
     let (name, query) = (vector.name.clone(), vector.query.clone());
-    Ok(Case { name, query, record: written.text, answer, pairs, sort })
+    Ok(Case { name, query, record: written.text, answer, pairs, sort, paths })
 }
 
 /// The number of the reason why a query is left out.
@@ -126,22 +134,35 @@ fn left_out(query: &str, refusal: Refusal) -> Result<usize, String> {
 }
 
 /// The spans of the values of one result, found by its paths; the values have to be those of the
-/// result, and a path must not lead to two members of one name.
+/// result, a path must not lead to two members of one name, and the paths have to be those that the
+/// `oracle` crate gives.
 fn locate(alternative: &Alternative, written: &Written) -> Result<Vec<Span>, String> {
     let mut spans = Vec::new();
-    for (value, path) in alternative.values.iter().zip(&alternative.paths) {
-        let keys = normalized_path(path)?;
+    for (value, published) in alternative.values.iter().zip(&alternative.paths) {
+        let keys = normalized_path(published)?;
         let mut found = written.spans.iter().filter(|(place, _)| *place == keys);
         let (Some(&(_, span)), None) = (found.next(), found.next()) else {
-            return Err(format!("{path} does not lead to exactly one value"));
+            return Err(format!("{published} does not lead to exactly one value"));
         };
         let text = &written.text[span.0 as usize..span.1 as usize];
         if text != value.text() {
-            return Err(format!("{path} leads to {text}, but the result is {}", value.text()));
+            return Err(format!("{published} leads to {text}, but the result is {}", value.text()));
+        }
+        let path = path(written.text.as_bytes(), span.0 as usize).map(|path| path.text);
+        if path.as_ref() != Ok(published) {
+            return Err(format!("{published} leads to a value whose path is {path:?}"));
         }
         spans.push(span);
     }
     Ok(spans)
+}
+
+/// The first bytes of the located values, each once, with the paths that led to them.
+fn paths(alternatives: &[Alternative], located: &[Vec<Span>]) -> Vec<(u32, String)> {
+    let found = alternatives.iter().zip(located).flat_map(|(alternative, spans)| {
+        spans.iter().map(|&(start, _)| start).zip(alternative.paths.iter().cloned())
+    });
+    found.collect::<BTreeSet<_>>().into_iter().collect()
 }
 
 /// The departure of document 01: each node once, by first byte.

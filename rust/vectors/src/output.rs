@@ -1,14 +1,15 @@
 //! The files that are made of the suite.
 //!
 //! The program that runs the vectors reads a file of cases (`docs/SAMPLES.md` has its notation): for
-//! each vector its name as a note, its record and its query. What it has to print is that file with
-//! the answers of both walks below each query, and the number of cases.
+//! each vector its name as a note, its record, its query, and the first byte of each node of its
+//! results, for the path. What it has to print is that file with the answers of both walks below each
+//! query, that of the writer of paths below each node, and the number of cases.
 
 use crate::case::{case, Case, Sort, REASONS};
 use crate::suite;
 use crate::value::Value;
 use oracle::NO_GROUND;
-use samples::{notation, walks_with};
+use samples::{notation, path_with, walks_with};
 
 /// A file of the repository: its path from the top folder, and its contents.
 pub struct File {
@@ -16,7 +17,8 @@ pub struct File {
     pub contents: String,
 }
 
-/// The numbers of the list that each case is lent, and the most pairs that it may need.
+/// The numbers of the list that each case is lent, which are also the bytes of the buffer for a path,
+/// and the most pairs that it may need.
 const NUMBERS: usize = 64;
 const MAX_PAIRS: usize = NUMBERS / 2;
 
@@ -29,6 +31,11 @@ pub fn files(text: &[u8]) -> Result<Vec<File>, String> {
     }
     if let Some(case) = cases.iter().find(|case| case.pairs.len() > MAX_PAIRS) {
         return Err(format!("{}: more than {MAX_PAIRS} pairs", case.name));
+    }
+    if let Some(case) =
+        cases.iter().find(|case| case.paths.iter().any(|(_, path)| path.len() > NUMBERS))
+    {
+        return Err(format!("{}: a path of more than {NUMBERS} bytes", case.name));
     }
     Ok(vec![
         File { path: "crates/vectors/stdin", contents: input(&cases) },
@@ -43,7 +50,7 @@ fn head() -> String {
     format!("# The published vectors. The generator in rust/vectors writes this file.\n\nlist {NUMBERS}\n")
 }
 
-/// The lines of a case.
+/// The lines of a case, up to its query.
 fn lines(case: &Case) -> String {
     let Case { name, query, record, .. } = case;
     let line = |word: &str, text: &str| match text {
@@ -53,9 +60,16 @@ fn lines(case: &Case) -> String {
     format!("\n# {name}\n{}{}", line("record", record), line("query", query))
 }
 
+/// The line that asks for the path of a node.
+fn path_line(start: u32) -> String {
+    format!("path {start}\n")
+}
+
 /// The input of the program.
 fn input(cases: &[Case]) -> String {
-    head() + &cases.iter().map(lines).collect::<String>()
+    let asked =
+        |case: &Case| case.paths.iter().map(|&(start, _)| path_line(start)).collect::<String>();
+    head() + &cases.iter().map(|case| lines(case) + &asked(case)).collect::<String>()
 }
 
 /// The output of the program.
@@ -64,8 +78,20 @@ fn expected(cases: &[Case]) -> String {
         let numbers = pairs.iter().flat_map(|&(start, end)| [start as u32, end as u32]);
         walks_with(answer, numbers, NUMBERS)
     };
-    let runs: String = cases.iter().map(|case| lines(case) + &answers(case)).collect();
-    format!("{}{runs}{} cases\n", head(), cases.len())
+    let written = |case: &Case| -> String {
+        case.paths
+            .iter()
+            .map(|(start, path)| path_line(*start) + &path_with(path, NUMBERS))
+            .collect()
+    };
+    let runs: String =
+        cases.iter().map(|case| lines(case) + &answers(case) + &written(case)).collect();
+    format!("{}{runs}{} cases\n", head(), cases.len() + path_count(cases))
+}
+
+/// How many paths are asked for.
+fn path_count(cases: &[Case]) -> usize {
+    cases.iter().map(|case| case.paths.len()).sum()
 }
 
 /// What becomes of a vector, in words.
@@ -116,6 +142,8 @@ fn page(cases: &[Case]) -> String {
         ("INVALID", of_sort(Sort::Invalid)),
         ("ESCAPES", count(&|case| case.answer.ground == NO_GROUND && case.query.contains('\\'))),
         ("LINE_FEEDS", count(&|case| case.query.contains('\n'))),
+        ("PATHS", path_count(cases)),
+        ("WITH_PATHS", count(&|case| !case.paths.is_empty())),
     ];
     let mut page = include_str!("page.md").replace("{REASONS}\n", &reasons);
     for (name, figure) in figures {

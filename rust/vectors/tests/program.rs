@@ -39,6 +39,9 @@ fn a_vector_that_contradicts_the_papers_is_a_fault() {
     assert!(valid("$.*", "[1]", r#"["$[0]"]"#).is_err());
     assert!(valid("$.a", "[2]", r#"["$[1]['a']"]"#).is_err());
     assert!(valid("$.*", "[1,2]", r#"["$[0]","$[1]['b']"]"#).is_err());
+    // A path that leads to the value but is not the normalized one.
+    assert!(valid("$..a", "[2]", r#"["$[1]['\\u0061']"]"#).is_err());
+    assert!(valid("$..a", "[2]", r#"["$[01]['a']"]"#).is_err());
     // Left out for no known reason; taken although it is said to be invalid; unknown members.
     assert!(valid("$&", "[]", "[]").is_err());
     assert!(alone(r#""selector":"$.a","invalid_selector":true"#).is_err());

@@ -40,10 +40,23 @@
 //! # Ok::<(), woodcrock::Refusal>(())
 //! ```
 //!
+//! From a node's first byte [`path_at`] gives its path, the normalized path of RFC 9535: where in the
+//! record it stands by names and positions. Members that repeat a name have the same path. A path of
+//! up to 16 steps and 1,024 bytes is a query that picks out exactly the nodes that have it.
+//!
+//! ```
+//! let record = br#"{"blend": [{"grower's lot": 1}, {"grower's lot": 2}]}"#;
+//! let second = woodcrock::list(b"$.blend[1].*", record)?.ranges().next().unwrap();
+//! let path = woodcrock::path_at(record, second.start)?;
+//! assert_eq!(path, r"$['blend'][1]['grower\'s lot']");
+//! assert!(woodcrock::list(path.as_bytes(), record)?.ranges().eq([second]));
+//! # Ok::<(), woodcrock::Refusal>(())
+//! ```
+//!
 //! The calls are those of the static library `libwoodcrock_c.a`, which is proved to answer so for
 //! all bytes. Its C declarations ([`sys`]) owe it pointers of the stated lengths, an aligned list and
 //! no overlap; slices and borrows are that, so that no call of the functions here can break it. They
-//! use no memory but their stack, and [`list`] takes memory for its list.
+//! use no memory but their stack, and [`list`] and [`path_at`] take memory for what they give back.
 
 mod matches;
 mod refusal;
@@ -91,6 +104,15 @@ const MORE_PAIRS: usize = 16;
 /// How many times as long a list gets that was too short. No value of n bytes has more than
 /// (n + 1) / 2 nodes, so that once is enough.
 const GROWTH: usize = 4;
+
+/// A path has room for so many bytes at first: room for the longest one of a long record slows the call
+/// down.
+const SHORT_PATH: usize = 256;
+/// A path has at most so many bytes for each byte of the record. Each of its steps has at most twice as
+/// many as the step's container has around the value: `['']` for `{"":}`, and two for each byte of the
+/// name, since a single quote gets one more; `[0]` for `[]`, and at most a digit more for each element
+/// before it. The `$` stands for the node itself.
+const PATH_BYTES_TO_A_BYTE: usize = 2;
 
 impl Walk {
     /// Lists the nodes that a query picks out of a record.
@@ -233,6 +255,73 @@ pub fn find_value(record: &[u8], offset: usize) -> Result<usize, Refusal> {
 /// ```
 pub fn value_at(record: &[u8], offset: usize) -> Result<&[u8], Refusal> {
     find_value(record, offset).map(|end| &record[offset..end])
+}
+
+/// Writes the path of the node whose first byte stands at `offset` to the start of a buffer that is
+/// lent, and gives back its length.
+///
+/// It is the normalized path of RFC 9535, section 2.7, in UTF-8: `$`, and then the position as in `[0]`
+/// or the name as in `['lot']` of each node on the way from the root down to and with this one. In a
+/// name a single quote and a backslash have a backslash before them, the controls below 20
+/// (hexadecimal) are `\b`, `\t`, `\n`, `\f`, `\r` or `\u00` and two digits in lower case, and all else
+/// is itself.
+///
+/// The bytes beyond the path keep what they held, and on a refusal all of them. Twice as many bytes as
+/// the record has are enough for each of its paths. Every call checks the whole record.
+///
+/// ```
+/// use woodcrock::{write_path, Ground, Refusal};
+///
+/// let record = br#"{"blend": [{"lot": 1}]}"#;
+/// let mut buffer = [b'.'; 24];
+/// let length = write_path(record, 19, &mut buffer)?;
+/// assert_eq!(&buffer[..length], b"$['blend'][0]['lot']");
+/// assert_eq!(&buffer[length..], b"....");
+///
+/// let refusal = write_path(record, 19, &mut buffer[..19]).unwrap_err();
+/// assert_eq!(refusal, Refusal { ground: Ground::PathTooLong, place: 19 });
+/// # Ok::<(), Refusal>(())
+/// ```
+pub fn write_path(record: &[u8], offset: usize, buffer: &mut [u8]) -> Result<usize, Refusal> {
+    // SAFETY: pointers and lengths are those of slices that live through the call; `buffer` is
+    // borrowed mutably, so that it does not overlap the record.
+    let written = unsafe {
+        sys::woodcrock_write_path(
+            record.as_ptr(),
+            record.len(),
+            offset,
+            buffer.as_mut_ptr(),
+            buffer.len(),
+        )
+    };
+    Refusal::check(written.ground, written.place)?;
+    Ok(written.length)
+}
+
+/// The path of the node whose first byte stands at `offset`: what [`write_path`] writes.
+///
+/// The buffer is as long as it has to be: a call that finds it too short is made again with one that no
+/// path of the record exceeds, so that [`Ground::PathTooLong`] never comes back.
+///
+/// ```
+/// use woodcrock::{path_at, Ground, Refusal};
+///
+/// let record = br#"{"lot": [1, 2], "\ud800": [3]}"#;
+/// assert_eq!(path_at(record, 12)?, "$['lot'][1]");
+/// let refusal = path_at(record, 27).unwrap_err();
+/// assert_eq!(refusal, Refusal { ground: Ground::HalfInName, place: 16 });
+/// # Ok::<(), Refusal>(())
+/// ```
+pub fn path_at(record: &[u8], offset: usize) -> Result<String, Refusal> {
+    let mut buffer = vec![0; SHORT_PATH];
+    let mut written = write_path(record, offset, &mut buffer);
+    if matches!(written, Err(Refusal { ground: Ground::PathTooLong, .. })) {
+        buffer = vec![0; PATH_BYTES_TO_A_BYTE * record.len()];
+        written = write_path(record, offset, &mut buffer);
+    }
+    buffer.truncate(written?);
+    buffer.shrink_to_fit();
+    Ok(String::from_utf8(buffer).expect("a path is UTF-8"))
 }
 
 /// Sorts one block, the first [`BLOCK`] bytes of `rest` or fewer if it has fewer, into words of

@@ -6,7 +6,7 @@ use std::io::{self, BufWriter, Read, Write};
 use std::os::unix::ffi::{OsStrExt, OsStringExt};
 use std::process::ExitCode;
 use std::{env, fmt, str};
-use woodcrock::{sort_block, Ground, Matches, Refusal, Walk, BLOCK, MAX_RECORD};
+use woodcrock::{path_at, sort_block, Ground, Matches, Refusal, Walk, BLOCK, MAX_RECORD};
 
 const USAGE: &str = include_str!("usage.txt");
 
@@ -22,6 +22,7 @@ enum Output {
     Raw,
     Offsets,
     Count,
+    Paths,
 }
 
 /// What the command line asks for.
@@ -35,7 +36,13 @@ enum Failure {
     Usage(String),
     Read(String, io::Error),
     Write(io::Error),
-    Refused { refusal: Refusal, query: Vec<u8>, record: Vec<u8> },
+    Refused {
+        refusal: Refusal,
+        query: Vec<u8>,
+        record: Vec<u8>,
+    },
+    /// So many values have no path; each was told.
+    WithoutPath(usize),
 }
 
 impl Failure {
@@ -44,6 +51,7 @@ impl Failure {
             Failure::Usage(_) => USED_WRONGLY,
             Failure::Read(..) | Failure::Write(_) => NOT_READ_OR_WRITTEN,
             Failure::Refused { refusal, .. } => REFUSED + refusal.ground.number() as u8,
+            Failure::WithoutPath(_) => REFUSED + Ground::HalfInName.number() as u8,
         }
     }
 }
@@ -58,6 +66,8 @@ impl fmt::Display for Failure {
                 explain_query(out, *refusal, query)
             }
             Failure::Refused { refusal, record, .. } => explain_record(out, *refusal, record),
+            Failure::WithoutPath(1) => write!(out, "1 value has no path"),
+            Failure::WithoutPath(values) => write!(out, "{values} values have no path"),
         }
     }
 }
@@ -96,6 +106,20 @@ fn explain_record(out: &mut fmt::Formatter, refusal: Refusal, record: &[u8]) -> 
     write!(out, " (line {line}, column {column})")
 }
 
+/// Why a value of the record, by its first byte, has no path.
+struct NoPath<'a> {
+    value: usize,
+    refusal: Refusal,
+    record: &'a [u8],
+}
+
+impl fmt::Display for NoPath<'_> {
+    fn fmt(&self, out: &mut fmt::Formatter) -> fmt::Result {
+        write!(out, "no path for the value at byte {}: ", self.value)?;
+        explain_record(out, self.refusal, self.record)
+    }
+}
+
 /// Reads the command line. Words after `--`, and the word `-`, are no options.
 fn task(arguments: impl Iterator<Item = OsString>) -> Result<Task, Failure> {
     let (mut walk, mut output, mut options_over) = (Walk::Jumping, Output::Values, false);
@@ -112,6 +136,7 @@ fn task(arguments: impl Iterator<Item = OsString>) -> Result<Task, Failure> {
             Some("--raw") => output = only(output, Output::Raw)?,
             Some("--offsets") => output = only(output, Output::Offsets)?,
             Some("--count") => output = only(output, Output::Count)?,
+            Some("--paths") => output = only(output, Output::Paths)?,
             _ => return Err(Failure::Usage(format!("no option {}", argument.display()))),
         }
     }
@@ -130,7 +155,9 @@ fn task(arguments: impl Iterator<Item = OsString>) -> Result<Task, Failure> {
 fn only(before: Output, asked: Output) -> Result<Output, Failure> {
     match before == Output::Values || before == asked {
         true => Ok(asked),
-        false => Err(Failure::Usage("only one of --raw, --offsets and --count".to_string())),
+        false => {
+            Err(Failure::Usage("only one of --raw, --offsets, --count and --paths".to_string()))
+        }
     }
 }
 
@@ -155,8 +182,14 @@ fn read(file: Option<OsString>) -> Result<Vec<u8>, Failure> {
     }
 }
 
-/// Prints what is asked for of the nodes.
-fn print(out: &mut impl Write, output: Output, matches: &Matches) -> io::Result<()> {
+/// Prints what is asked for of the nodes, and gives back how many it had to leave out.
+fn print(
+    out: &mut impl Write,
+    output: Output,
+    record: &[u8],
+    matches: &Matches,
+) -> io::Result<usize> {
+    let mut left_out = 0;
     match output {
         Output::Count => writeln!(out, "{}", matches.len())?,
         Output::Offsets => {
@@ -176,8 +209,20 @@ fn print(out: &mut impl Write, output: Output, matches: &Matches) -> io::Result<
                 out.write_all(b"\n")?;
             }
         }
+        Output::Paths => {
+            for value in matches.ranges().map(|range| range.start) {
+                match path_at(record, value) {
+                    Ok(path) => writeln!(out, "{path}")?,
+                    Err(refusal) => {
+                        left_out += 1;
+                        tell(&NoPath { value, refusal, record });
+                    }
+                }
+            }
+        }
     }
-    out.flush()
+    out.flush()?;
+    Ok(left_out)
 }
 
 /// Prints a value without its blanks outside strings; inside there are no line feeds.
@@ -211,7 +256,15 @@ fn run() -> Result<(), Failure> {
         Ok(matches) => matches,
         Err(refusal) => return Err(Failure::Refused { refusal, query, record }),
     };
-    print(&mut out, output, &matches).map_err(Failure::Write)
+    match print(&mut out, output, &record, &matches).map_err(Failure::Write)? {
+        0 => Ok(()),
+        left_out => Err(Failure::WithoutPath(left_out)),
+    }
+}
+
+/// A message on standard error.
+fn tell(message: &impl fmt::Display) {
+    eprintln!("woodcrock: {message}");
 }
 
 fn main() -> ExitCode {
@@ -221,7 +274,7 @@ fn main() -> ExitCode {
     match &failure {
         // Who reads the output has seen enough.
         Failure::Write(fault) if fault.kind() == io::ErrorKind::BrokenPipe => {}
-        _ => eprintln!("woodcrock: {failure}"),
+        _ => tell(&failure),
     }
     ExitCode::from(failure.status())
 }

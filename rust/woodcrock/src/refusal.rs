@@ -29,11 +29,16 @@ pub enum Ground {
     ListFull = 7,
     /// No value begins at the offset asked for, which is the place. A member's name is no value.
     NoValueThere = 8,
+    /// A name on the way from the root to the node, or its own, has half of a surrogate pair, which no
+    /// path can hold; the place is that of the opening quote of the first such name, the outermost.
+    HalfInName = 9,
+    /// The path is longer than the buffer; the place is the first byte of the node.
+    PathTooLong = 10,
 }
 
 impl Ground {
     /// All grounds in the order of their numbers.
-    pub const ALL: [Ground; 8] = [
+    pub const ALL: [Ground; 10] = [
         Ground::QueryTooLong,
         Ground::QueryMalformed,
         Ground::TooManySteps,
@@ -42,9 +47,11 @@ impl Ground {
         Ground::RecordTooDeep,
         Ground::ListFull,
         Ground::NoValueThere,
+        Ground::HalfInName,
+        Ground::PathTooLong,
     ];
 
-    /// The ground's number, from 1 to 8.
+    /// The ground's number, from 1 to 10.
     pub fn number(self) -> u32 {
         self as u32
     }
@@ -89,6 +96,12 @@ impl fmt::Display for Refusal {
             }
             Ground::ListFull => write!(out, "the list has no room for the node at byte {place}"),
             Ground::NoValueThere => write!(out, "no value of the record begins at byte {place}"),
+            Ground::HalfInName => {
+                write!(out, "the name at byte {place} has half of a surrogate pair")
+            }
+            Ground::PathTooLong => {
+                write!(out, "the buffer has no room for the path of the node at byte {place}")
+            }
         }
     }
 }

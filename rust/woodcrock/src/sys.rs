@@ -21,6 +21,15 @@ pub struct Value {
     pub end: usize,
 }
 
+/// The answer of the writer of a path.
+#[repr(C)]
+#[derive(Clone, Copy, PartialEq, Eq, Debug)]
+pub struct Written {
+    pub ground: u32,
+    pub place: usize,
+    pub length: usize,
+}
+
 /// The words of a block and the two facts for the next one.
 #[repr(C)]
 #[derive(Clone, Copy, PartialEq, Eq, Hash, Debug)]
@@ -70,6 +79,14 @@ extern "C" {
     ) -> Answer;
     /// The value finder.
     pub fn woodcrock_find_value(record: *const u8, record_len: usize, offset: usize) -> Value;
+    /// The writer of a path.
+    pub fn woodcrock_write_path(
+        record: *const u8,
+        record_len: usize,
+        offset: usize,
+        buffer: *mut u8,
+        buffer_len: usize,
+    ) -> Written;
     /// The block sorter.
     pub fn woodcrock_sort_block(rest: *const u8, rest_len: usize, inside: bool, odd: bool)
         -> Words;

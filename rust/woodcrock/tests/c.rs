@@ -5,7 +5,7 @@ use std::io::Write;
 use std::mem::{align_of, offset_of, size_of};
 use std::path::{Path, PathBuf};
 use std::process::{Command, Output, Stdio};
-use woodcrock::sys::{Answer, Value, Words};
+use woodcrock::sys::{Answer, Value, Words, Written};
 
 fn top_folder() -> &'static Path {
     Path::new(env!("CARGO_MANIFEST_DIR")).ancestors().nth(2).expect("the top folder")
@@ -60,6 +60,8 @@ fn the_header() {
         vec![offset_of!(Answer, pairs), offset_of!(Answer, peak)],
         vec![size_of::<Value>(), align_of::<Value>()],
         vec![offset_of!(Value, ground), offset_of!(Value, place), offset_of!(Value, end)],
+        vec![size_of::<Written>(), align_of::<Written>()],
+        vec![offset_of!(Written, ground), offset_of!(Written, place), offset_of!(Written, length)],
         vec![size_of::<Words>(), align_of::<Words>()],
         vec![offset_of!(Words, quotes), offset_of!(Words, strings)],
         vec![offset_of!(Words, opening), offset_of!(Words, closing)],
@@ -70,7 +72,8 @@ fn the_header() {
     };
     let layouts: String = layouts.iter().map(line).collect();
     let answers = "plain 0 0 2 1: 1 2 3 6 9\njumping 7 3 1 0: 1 2 9\nempty 2 0 0 0\n\
-                   value 0 0 6\nno value 8 2 0\nwords 12 e 1 20 0 0\nnone 0 0 0 0 1 1\n";
+                   value 0 0 6\nno value 8 2 0\npath 0 0 7: $[1][0].\nlong path 10 4 0: ......\n\
+                   no record 5 0 0\nwords 12 e 1 20 0 0\nnone 0 0 0 0 1 1\n";
     assert_eq!(String::from_utf8_lossy(&output.stdout), layouts + answers);
     assert_eq!((output.status.code(), output.stderr), (Some(0), Vec::new()));
 }

@@ -4,8 +4,8 @@
 use records::{cases, Random};
 use std::ops::Range;
 use woodcrock::{
-    find_value, list, list_into, sort_block, value_at, Ground, Listed, Ranges, Refusal, Walk,
-    MAX_LEVELS, MAX_QUERY, MAX_RECORD, MAX_STEPS,
+    find_value, list, list_into, path_at, sort_block, value_at, write_path, Ground, Listed, Ranges,
+    Refusal, Walk, MAX_LEVELS, MAX_QUERY, MAX_RECORD, MAX_STEPS,
 };
 
 const WALKS: [Walk; 2] = [Walk::Plain, Walk::Jumping];
@@ -57,6 +57,8 @@ fn limits_on_both_sides() {
         find_value(&record, 0).map_err(|refusal| refusal.ground),
         Err(Ground::RecordTooLong)
     );
+    let too_long = Refusal { ground: Ground::RecordTooLong, place: MAX_RECORD };
+    assert_eq!(path_at(&record, 0), Err(too_long));
     let nested = |levels: usize| ["[".repeat(levels), "]".repeat(levels)].concat();
     assert_eq!(ranges("$..*", &nested(MAX_LEVELS)).len(), MAX_LEVELS - 1);
     assert_eq!(refusal(b"$", nested(MAX_LEVELS + 1).as_bytes()), (6, MAX_LEVELS));
@@ -132,6 +134,60 @@ fn values_by_offset() {
     assert_eq!(value_at(b"\xEF\xBB\xBF7", 3), Err(malformed));
 }
 
+#[test]
+fn paths_by_offset() {
+    let record = br#" {"a": [1, {"it's": "x"}], "\ud800": {"b": 2}} "#;
+    let path = |offset: usize| path_at(record, offset);
+    assert_eq!(path(1).as_deref(), Ok("$"));
+    assert_eq!(path(7).as_deref(), Ok("$['a']"));
+    assert_eq!(path(11).as_deref(), Ok("$['a'][1]"));
+    assert_eq!(path(20).as_deref(), Ok(r"$['a'][1]['it\'s']"));
+    for offset in [37, 43] {
+        let half = Refusal { ground: Ground::HalfInName, place: 27 };
+        assert_eq!(path(offset), Err(half));
+        assert_eq!(write_path(record, offset, &mut []), Err(half));
+    }
+    for offset in [0, 2, 9, 27, record.len(), usize::MAX] {
+        let none = Refusal { ground: Ground::NoValueThere, place: offset };
+        assert_eq!((path(offset), write_path(record, offset, &mut [])), (Err(none), Err(none)));
+    }
+    let malformed = Refusal { ground: Ground::RecordMalformed, place: 0 };
+    assert_eq!((path_at(b"", 0), write_path(b"", 0, &mut [])), (Err(malformed), Err(malformed)));
+}
+
+#[test]
+fn a_buffer_that_is_lent() {
+    let record = br#"{"a":[1,2]}"#;
+    let mut buffer = *b"............";
+    assert_eq!(write_path(record, 8, &mut buffer), Ok(9));
+    assert_eq!(buffer, *b"$['a'][1]...");
+    assert_eq!(write_path(record, 8, &mut buffer[..9]), Ok(9));
+    let too_long = Refusal { ground: Ground::PathTooLong, place: 8 };
+    let mut buffer = *b"........";
+    assert_eq!(write_path(record, 8, &mut buffer), Err(too_long));
+    assert_eq!(buffer, *b"........");
+    assert_eq!(write_path(record, 8, &mut []), Err(too_long));
+}
+
+/// The memory for a path grows, and is enough where each byte of a name becomes two.
+#[test]
+fn long_paths() {
+    for quotes in [0, 1, 124, 125, 100_000] {
+        let name = "'".repeat(quotes);
+        let record = format!("{{\"{name}\":[7]}}");
+        let path = path_at(record.as_bytes(), 5 + quotes).expect("a value begins there");
+        assert_eq!(path, format!("$['{}'][0]", r"\'".repeat(quotes)));
+        assert!(path.len() <= 2 * record.len());
+    }
+    let (opening, closing) = ("[".repeat(MAX_LEVELS), "]".repeat(MAX_LEVELS));
+    let path = path_at(format!("{opening}{closing}").as_bytes(), MAX_LEVELS - 1);
+    assert_eq!(path, Ok(format!("${}", "[0]".repeat(MAX_LEVELS - 1))));
+    let filled = MAX_RECORD - r#"{"":7}"#.len();
+    let longest = format!("{{\"{}\":7}}", "'".repeat(filled));
+    let path = path_at(longest.as_bytes(), MAX_RECORD - 2).expect("a value begins there");
+    assert_eq!(path.len(), 2 * filled + "$['']".len());
+}
+
 /// A query may be a part of the record that it is asked of.
 #[test]
 fn a_query_in_its_record() {
@@ -154,11 +210,13 @@ fn every_message() {
             "the record is nested deeper than 512 levels at byte 42",
             "the list has no room for the node at byte 42",
             "no value of the record begins at byte 42",
+            "the name at byte 42 has half of a surrogate pair",
+            "the buffer has no room for the path of the node at byte 42",
         ]
     );
     let error: Box<dyn std::error::Error> = list(b"$", b"[").unwrap_err().into();
     assert_eq!(error.to_string(), "the record is malformed at byte 1");
-    assert!(Ground::ALL.iter().map(|ground| ground.number()).eq(1..=8));
+    assert!(Ground::ALL.iter().map(|ground| ground.number()).eq(1..=10));
     assert_eq!(Ground::ALL.iter().filter(|ground| ground.is_of_query()).count(), 3);
 }
 
@@ -197,6 +255,26 @@ fn random_cases() {
         assert_eq!(value_at(&record, offset).unwrap_or(&[]), oracle::read_value(&record, offset));
     }
     assert!(taken > 300);
+}
+
+#[test]
+fn random_paths() {
+    let mut random = Random::new(7);
+    let mut written = 0;
+    for _ in 0..1_000 {
+        let names = cases::names(&mut random);
+        let record = cases::record(&mut random, names);
+        for range in list(b"$..*", &record).iter().flat_map(|matches| matches.ranges()).take(20) {
+            let found = path_at(&record, range.start);
+            let wanted = oracle::path(&record, range.start);
+            assert_eq!(
+                found.map_err(|refusal| (refusal.ground.number(), refusal.place)),
+                wanted.map(|path| path.text).map_err(|refusal| (refusal.ground, refusal.place))
+            );
+            written += 1;
+        }
+    }
+    assert!(written > 3_000);
 }
 
 #[test]

@@ -52,6 +52,49 @@ fn each_output() {
 }
 
 #[test]
+fn paths() {
+    for walk in [&["--"][..], &["--plain", "--"]] {
+        let with = |query: &'static str| [&["--paths"], walk, &[query]].concat();
+        prints(&with("$..lot"), RECORD, "$['a']['lot']\n$['lot']\n");
+        prints(&with("$"), RECORD, "$\n");
+        prints(&with("$.lot.*"), RECORD, "$['lot'][0]\n$['lot'][1]\n");
+        prints(&with("$.none"), RECORD, "");
+        // Members of one name, and a name in which every character is one of a path.
+        prints(&with("$.M"), br#"{"M":1,"M":2}"#, "$['M']\n$['M']\n");
+        let name = "{\"\\u000a']\\\\\\u0001\\u00e9\":1}";
+        prints(&with("$.*"), name.as_bytes(), "$['\\n\\']\\\\\\u0001é']\n");
+    }
+    let long = "'".repeat(1_000);
+    let path = format!("$['{}']\n", r"\'".repeat(1_000));
+    prints(&["--paths", "$.*"], format!("{{\"{long}\":1}}").as_bytes(), &path);
+}
+
+/// A value without a path is told, and the others have theirs.
+#[test]
+fn values_without_a_path() {
+    let run_on = |record: &str| {
+        let output = run(&["--paths", "$..*"], record.as_bytes());
+        let text = |bytes: Vec<u8>| String::from_utf8(bytes).expect("text");
+        (text(output.stdout), text(output.stderr), output.status.code())
+    };
+    let half = "has half of a surrogate pair";
+    let (out, told, status) = run_on("{\"a\":1,\n \"\\ud800\":2,\"b\":3}");
+    assert_eq!(out, "$['a']\n$['b']\n");
+    let first = format!("no path for the value at byte 18: the name at byte 9 {half}");
+    let all = "woodcrock: 1 value has no path";
+    assert_eq!(told, format!("woodcrock: {first} (line 2, column 2)\n{all}\n"));
+    assert_eq!(status, Some(19));
+    let (out, told, status) = run_on(r#"[{"\udc00":{"\ud800":2}}]"#);
+    assert_eq!(out, "$[0]\n");
+    let line = |value: usize| {
+        let why = format!("the name at byte 2 {half} (line 1, column 3)");
+        format!("woodcrock: no path for the value at byte {value}: {why}\n")
+    };
+    assert_eq!(told, line(11) + &line(21) + "woodcrock: 2 values have no path\n");
+    assert_eq!(status, Some(19));
+}
+
+#[test]
 fn long_values_on_one_line() {
     let string = format!("\"{}\\\\\"", " \\\" ".repeat(100));
     let record = format!("[ {string} , [ {string} ] ]");
@@ -82,8 +125,9 @@ fn wrong_usage() {
     fails(&[], b"", 2, &format!("a query is missing; {how}"));
     fails(&["--verbose", "$"], b"7", 2, &format!("no option --verbose; {how}"));
     fails(&["$", "a", "b"], b"7", 2, &format!("a word too many: b; {how}"));
-    let one = format!("only one of --raw, --offsets and --count; {how}");
+    let one = format!("only one of --raw, --offsets, --count and --paths; {how}");
     fails(&["--count", "--raw", "$"], b"7", 2, &one);
+    fails(&["--paths", "--offsets", "$"], b"7", 2, &one);
 }
 
 #[test]
@@ -108,6 +152,8 @@ fn refusals_of_the_record() {
     longest.push(b' ');
     fails(&["$"], &longest, 14, "the record has more than 16777216 bytes");
     fails(&["$"], b"[1,\n 2,]", 15, "the record is malformed at byte 7 (line 2, column 4)");
+    let malformed = "the record is malformed at byte 3 (line 1, column 4)";
+    fails(&["--paths", "$"], b"[1,]", 15, malformed);
     fails(&["$"], b"\"\xFF\"", 15, "the record is malformed at byte 1 (line 1, column 2)");
     let incomplete = "the record is incomplete: it ends at byte 3 (line 1, column 4)";
     fails(&["$"], b"tru", 15, incomplete);
