@@ -209,20 +209,26 @@ fn print(
                 out.write_all(b"\n")?;
             }
         }
-        Output::Paths => {
-            for value in matches.ranges().map(|range| range.start) {
-                match path_at(record, value) {
-                    Ok(path) => writeln!(out, "{path}")?,
-                    Err(refusal) => {
-                        left_out += 1;
-                        tell(&NoPath { value, refusal, record });
-                    }
-                }
-            }
-        }
+        Output::Paths => left_out = print_paths(out, record, matches)?,
     }
     out.flush()?;
     Ok(left_out)
+}
+
+/// Prints the path of each node. One that has none is told, and the others go on; gives back how many
+/// were told.
+fn print_paths(out: &mut impl Write, record: &[u8], matches: &Matches) -> io::Result<usize> {
+    let mut told = 0;
+    for value in matches.ranges().map(|range| range.start) {
+        match path_at(record, value) {
+            Ok(path) => writeln!(out, "{path}")?,
+            Err(refusal) => {
+                told += 1;
+                tell(&NoPath { value, refusal, record });
+            }
+        }
+    }
+    Ok(told)
 }
 
 /// Prints a value without its blanks outside strings; inside there are no line feeds.
