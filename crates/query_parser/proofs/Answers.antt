@@ -15,6 +15,8 @@ use Rattle.query_steps.specs.declared.Taking.the-variants.{Every, Name, Positio
 use Rattle.query_parser.specs.declared.compiled.Compiled.{Compiled}
 use Rattle.query_parser.specs.declared.compiled.Entry.{Entry}
 use Rattle.query_parser.specs.declared.Outcome.{Outcome}
+use Rattle.query_parser.specs.declared.Rest.{Rest}
+use Rattle.query_parser.specs.declared.Rest.the-variants.{Steps, Dead}
 use Rattle.bits.specs.Bits.{bit}
 use Rattle.bits.specs.Laws.{bit-zero}
 use Rattle.encoding.specs.Verdict
@@ -32,21 +34,22 @@ use Rattle.query.specs.Verdict.{maxQueryBytes, maxSteps, decodedStep, stepsIn, 
 use Rattle.query.specs.Says.{short-enough, too-long, few, too-many}
 use Rattle.query_parser.specs.Compiles.{HeldTo, Stands, Decodes, Adds}
 use Rattle.query_parser.specs.Holds.{Holds, noSteps}
-use Rattle.query_parser.specs.Answer.{refusal, overflow, StepsFor, QueryRead}
+use Rattle.query_parser.specs.Answer.{refusal, restOf, overflow, StepsFor, QueryRead}
 use Rattle.query_parser.proofs.Masks.{held-on}
 use Rattle.query_steps.proofs.StepRead.{the-type}
+use Rattle.query_parser.proofs.Rest as R
 
 abbrev pub refused-with : ℕ → ℕ → Compiled → Outcome
 refused-with g p c = record { ground = g; place = p; steps = c }
 
--- steps were passed over, up to i
-pub record OverflowFrom (q : List ℕ) (place n i : ℕ) : Type 0 where
+-- steps were passed over, from n up to i
+pub record RestFrom (q : List ℕ) (n i : ℕ) : Type 0 where
   pub within : i ≤ length q
-  pub same : overflow place (reading done n (drop n q)) ≡ overflow place (reading done i (drop i q))
+  pub same : restOf (reading done n (drop n q)) ≡ restOf (reading done i (drop i q))
 
-overflow-push : (place : ℕ) (x : Placed) (r : Reading) → overflow place (push x r) ≡ overflow place r
-overflow-push place x (good a) = refl
-overflow-push place x (bad p) = refl
+rest-push : (x : Placed) (r : Reading) → restOf (push x r) ≡ restOf r
+rest-push x (good a) = refl
+rest-push x (bad p) = refl
 
 -- what a step that was read says
 pub step-taken : {q : List ℕ} {i : ℕ} {r : StepRead} → StepAt q i r → {f : Found} {m : ℕ} → r ≡ Taken f m → StepTaken q i f m
@@ -65,20 +68,26 @@ nothing-left : (q : List ℕ) (i : ℕ) → length q ≤ i → reading done i (d
 unfolding reading
 nothing-left q i h = ap (reading done i) (drop-of-length-le q h)
 
-module _ {q : List ℕ} {place n i : ℕ} (s : OverflowFrom q place n i) where
-  pub overflow-on : {f : Found} {m : ℕ} → StepTaken q i f m → OverflowFrom q place n m
-  overflow-on {f} {m} t = record {
+module _ {q : List ℕ} {n i : ℕ} (s : RestFrom q n i) where
+  pub rest-on : {f : Found} {m : ℕ} → StepTaken q i f m → RestFrom q n m
+  rest-on {f} {m} t = record {
     within = t .within;
-    same = s .same ∙ ap (overflow place) (t .reads) ∙
-        overflow-push place (placedAt q f) (reading done m (drop m q));
+    same = s .same ∙ ap restOf (t .reads) ∙ rest-push (placedAt q f) (reading done m (drop m q));
   }
 
-  pub overflow-refused : {r : StepRead} {p : ℕ} {a : Outcome} → StepAt q i r → tagOf the-type r ≡ 1 → p ≡ readPlace r → a ≡ refusal 2 p →
-      a ≡ overflow place (reading done n (drop n q))
-  overflow-refused z t e f = f ∙ ap (refusal 2) e ∙ sym (s .same ∙ ap (overflow place) (step-refused z t))
+  pub rest-refused : {r : StepRead} {p : ℕ} → StepAt q i r → tagOf the-type r ≡ 1 → p ≡ readPlace r → Dead p ≡ restOf (reading done n (drop n q))
+  rest-refused z t e = ap Dead e ∙ sym (s .same ∙ ap restOf (step-refused z t))
 
-  pub overflow-end : {a : Outcome} → length q ≤ i → a ≡ refusal 3 place → a ≡ overflow place (reading done n (drop n q))
-  overflow-end h f = f ∙ sym (s .same ∙ ap (overflow place) (nothing-left q i h))
+  pub rest-end : length q ≤ i → Steps ≡ restOf (reading done n (drop n q))
+  rest-end h = sym (s .same ∙ ap restOf (nothing-left q i h))
+
+-- what is refused of a 17th step
+pub overflow-steps : {place : ℕ} {r x : Rest} {a : Outcome} → r ≡ x → tagOf R.the-type r ≡ 0 → a ≡ refusal 3 place → a ≡ overflow place x
+overflow-steps {place} {r} e t f = f ∙ go r t ∙ ap (overflow place) e
+  where
+    go : (r : Rest) → tagOf R.the-type r ≡ 0 → refusal 3 place ≡ overflow place r
+    go Steps t = refl
+    go (Dead p) t = absurd (omega arith)
 
 -- steps, and then what is still to be read
 abbrev prepend : List Placed → Reading → Reading
@@ -228,11 +237,11 @@ module _ {q names : List ℕ} {c : Compiled} {i : ℕ} (s : SoFar q names c i) w
 
   -- a 17th step stands there
   pub so-far-many : {f : Found} {m : ℕ} {a : Outcome} → StepTaken q i f m → c .kinds .count ≡ maxSteps →
-      a ≡ overflow (f .place) (reading done m (drop m q)) → QueryRead q names a
+      a ≡ overflow (f .place) (restOf (reading done m (drop m q))) → QueryRead q names a
   unfolding judged
   so-far-many {f} {m} {a} t n g = go (reading done m (drop m q)) (s .reads ∙ ap (prepend (s .before)) (t .reads)) g
     where
-      go : (r : Reading) → reading root 0 q ≡ prepend (s .before) (push (placedAt q f) r) → a ≡ overflow (f .place) r → QueryRead q names a
+      go : (r : Reading) → reading root 0 q ≡ prepend (s .before) (push (placedAt q f) r) → a ≡ overflow (f .place) (restOf r) → QueryRead q names a
       go (good b) e g =
           let l = s .before in
           let k : List Placed = l ++ placedAt q f ∷ b .later in

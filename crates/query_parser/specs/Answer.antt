@@ -4,6 +4,8 @@ use mathlib.Core.List.{List}
 use Prim.Native.Nat.{ℕ, zero, suc}
 use Rattle.query_parser.specs.declared.compiled.Compiled.{Compiled}
 use Rattle.query_parser.specs.declared.Outcome.{Outcome}
+use Rattle.query_parser.specs.declared.Rest.{Rest}
+use Rattle.query_parser.specs.declared.Rest.the-variants.{Steps, Dead}
 use Rattle.query.specs.Read.{Reading, good, bad}
 use Rattle.query.specs.Verdict.{stepsIn, queryVerdict}
 use Rattle.query_parser.specs.Holds.{Holds, noSteps}
@@ -12,10 +14,15 @@ use Rattle.query_parser.specs.Holds.{Holds, noSteps}
 abbrev pub refusal : ℕ → ℕ → Outcome
 refusal g p = record { ground = g; place = p; steps = noSteps }
 
--- a query whose 17th step begins at `place`, by what is read behind that step
-abbrev pub overflow : ℕ → Reading → Outcome
-overflow place (good a) = refusal 3 place
-overflow place (bad p) = refusal 2 p
+-- what stands from a place of a query on, by what is read there
+abbrev pub restOf : Reading → Rest
+restOf (good a) = Steps
+restOf (bad p) = Dead p
+
+-- a query whose 17th step begins at `place`, by what stands behind that step
+abbrev pub overflow : ℕ → Rest → Outcome
+overflow place Steps = refusal 3 place
+overflow place (Dead p) = refusal 2 p
 
 -- the steps for a ground: all of the query's where there is none, and none on refusal
 abbrev pub StepsFor : (q names : List ℕ) → ℕ → Compiled → Type 0

@@ -14,7 +14,7 @@ ghost use lib.ListN.{length, drop};
 ghost use Rattle.encoding.specs.RowTable.{RowTable};
 ghost use Rattle.query.specs.Machine.{done};
 ghost use Rattle.query.specs.Read.{reading};
-ghost use Rattle.query_parser.specs.Answer.{refusal, overflow, QueryRead};
+ghost use Rattle.query_parser.specs.Answer.{refusal, restOf, overflow, QueryRead};
 
 const MAX_QUERY_BYTES: usize = 1024;
 
@@ -45,21 +45,38 @@ fn refuse(ground: u8, place: usize) -> Outcome
     }
 }
 
-// The refusal of a query whose 17th step begins at `place`: ground 3, if the rest of it, from `at` on, is in the grammar, and else
-// ground 2.
-fn too_many(rows: &Rows, query: &[u8], place: usize, at: usize) -> Outcome
+// What stands from a place of a query on: steps, up to its end; or something else, and the place of the dead byte.
+enum Rest {
+    Steps,
+    Dead(usize),
+}
+
+// What stands from `at` on.
+fn read_rest(rows: &Rows, query: &[u8], at: usize) -> Rest
     requires { ⌜ (at ≤ length (now query)) × RowTable (now rows) ⌝ }
-    ensures { λ r. ⌜ r ≡ overflow place (reading done at (drop at (now (query .entry)))) ⌝ }
+    ensures { λ r. ⌜ r ≡ restOf (reading done at (drop at (now (query .entry)))) ⌝ }
 {
     let mut i = at;
     while i < query.len() {
         let next = query_steps::read_step(rows, query, i);
         let StepRead::Taken(_, after) = next else {
-            return refuse(WRONG, query_steps::place_of(next));
+            return Rest::Dead(query_steps::place_of(next));
         };
         i = after;
     }
-    refuse(TOO_MANY, place)
+    Rest::Steps
+}
+
+// The refusal of a query whose 17th step begins at `place`: ground 3, if the rest of it, from `at` on, is in the grammar, and else
+// ground 2.
+fn too_many(rows: &Rows, query: &[u8], place: usize, at: usize) -> Outcome
+    requires { ⌜ (at ≤ length (now query)) × RowTable (now rows) ⌝ }
+    ensures { λ r. ⌜ r ≡ overflow place (restOf (reading done at (drop at (now (query .entry))))) ⌝ }
+{
+    let Rest::Dead(dead) = read_rest(rows, query, at) else {
+        return refuse(TOO_MANY, place);
+    };
+    refuse(WRONG, dead)
 }
 
 // Reads a query: grounds 1 to 3 with their places, tried in this order, and its steps where it is taken, with their names decoded.
