@@ -9,6 +9,8 @@ pub mod Within
 pub mod WithinLaws
 pub mod ListerSays
 pub mod ListerIs
+pub mod LongQueries
+pub mod LongQueriesHold
 pub mod Demand3
 pub mod Demand3Holds
 pub mod Demand3Met

@@ -25,7 +25,7 @@ use Rattle.select.specs.Ways.{Span, spanOf, peak}
 use Rattle.select.specs.PeakIs.{peak-is, peak-unique}
 use Rattle.answers.specs.Lister.{orElse, inputVerdict, spansOf, spansIn, peakOf, peakIn, pairsOf, listVerdict, writtenIf, peakIf, flat, Lists}
 use Rattle.answers.specs.Lister as lister
-use Rattle.answers.specs.Outcome.{Outcome, outcome, done, refused, answered}
+use Rattle.answers.specs.Outcome.{Outcome, outcome, done, refused, answered, ending, outcomeBy}
 use Rattle.answers.specs.Enumerates.{Enumerates}
 use Rattle.answers.specs.EnumeratesLaws.{enumeration, enumerates-spans}
 use Rattle.answers.specs.Within.{QueryIs, RecordIs}
@@ -39,16 +39,7 @@ unfolding outcome
 lists-outcome x =
     λ i. record { ground = x .ground-is i; place = x .place-is i; pairs = x .pairs-are i; peak = x .peak-is i; after = x .list-is i }
 
--- an outcome by the verdict, the pairs that are written and the peak
-abbrev ending : Verdict → (written : List Span) → (peak : ℕ) → (list : List ℕ) → Outcome
-ending v written k l =
-    answered (v .ground) (v .place) (length written) (peakIf (v .ground) k) (flat written ++ drop (2 * length written) l)
-
--- by the verdict on query and record, and the pairs to list
-abbrev outcomeBy : Verdict → List Span → (peak : ℕ) → (list : List ℕ) → Outcome
-outcomeBy v ss k l = ending (orElse v (listVerdict ss l)) (writtenIf (v .ground) ss l) k l
-
-outcome-by : (query text list : List ℕ) → outcome query text list ≡ outcomeBy (inputVerdict query text) (spansIn query text) (peakIn query text) list
+pub outcome-by : (query text list : List ℕ) → outcome query text list ≡ outcomeBy (inputVerdict query text) (spansIn query text) (peakIn query text) list
 unfolding outcome
 outcome-by q r l = refl
 
@@ -62,7 +53,7 @@ refuses-first v u h = go (v .ground) (v .place) h
     go (suc g) p h = refl
 
 -- and nothing is written
-refusal : (v : Verdict) (ss : List Span) (k : ℕ) (l : List ℕ) → 0 < v .ground → outcomeBy v ss k l ≡ refused (v .ground) (v .place) 0 l
+pub refusal : (v : Verdict) (ss : List Span) (k : ℕ) (l : List ℕ) → 0 < v .ground → outcomeBy v ss k l ≡ refused (v .ground) (v .place) 0 l
 unfolding orElse writtenIf peakIf flat
 refusal v ss k l h = go (v .ground) (v .place) h
   where
@@ -189,8 +180,8 @@ module _ (query text list : List ℕ) where
     where
       go : {v : Verdict} → QuerySays query v → Answered
       go (Q.taken l q e h) = record-answered q (record { written = e; bytes = l; steps = h })
-      go (Q.long l) = computed (queryRefused _ (Q.long l) (omega arith))
-      go (Q.wrong l f p d) = computed (queryRefused _ (Q.wrong l f p d) (omega arith))
+      go (Q.long l p d h) = computed (queryRefused _ (Q.long l p d h) (omega arith))
+      go (Q.wrong f p d l) = computed (queryRefused _ (Q.wrong f p d l) (omega arith))
       go (Q.many l t x u e h) = computed (queryRefused _ (Q.many l t x u e h) (omega arith))
 
   -- so it is said of what any call answers that meets a lister's promise

@@ -1,6 +1,7 @@
 -- The place of a refusal lies in the text or at its limit. Assumes nothing.
 use mathlib.Core.Path.{_≡_, refl, ap}
 use mathlib.Core.List.{List, [], _∷_, _++_}
+use mathlib.Core.Logic.{inl, inr}
 use Prim.Native.Nat.{ℕ, _+_, _≤_}
 use native.Mathlib.Omega.{arith}
 use lib.ListN.{length}
@@ -37,8 +38,9 @@ query-place s = go (queryVerdict s) (querySays s)
   where
     go : (v : Verdict) → QuerySays s v → v .place ≤ maxQueryBytes
     go v (Q.taken l t e f) = omega arith
-    go v (Q.long l) = omega arith
-    go v (Q.wrong l n p d) = omega (arith, d .within)
+    go v (Q.long l p d h) = omega arith
+    go v (Q.wrong n p d (inl l)) = omega (arith, d .within)
+    go v (Q.wrong n p d (inr h)) = omega arith
     go v (Q.many l t x u e f) = omega (arith, step-before-end t x u, ap length e)
 
 pub record-place : (s : List ℕ) → recordVerdict s .place ≤ maxBytes

@@ -3,9 +3,14 @@ use mathlib.Core.Path.{_≡_, refl}
 use mathlib.Core.List.{List, [], _∷_, map}
 use mathlib.Core.Bool.{true, false}
 use Prim.Native.Nat.{ℕ, zero, suc}
+use lib.ListN.{length}
+use borrow.Author.Tests.{leb-true}
 use Rattle.encoding.specs.Verdict.{Verdict, taken, refused}
 use Rattle.query.specs.Steps.{Selector, name, every, position, Step}
+use Rattle.query.specs.Machine.{place}
+use Rattle.query.specs.Place.{dead-place}
 use Rattle.query.specs.Verdict.{queryVerdict, stepsIn}
+use Rattle.query.specs.ByNumber.{EarlyFault, byNumber}
 
 record Row : Type 0 where
   pub query : List ℕ
@@ -110,14 +115,15 @@ steps-right : map (λ (r : Row). stepsIn (r .query)) table ≡ map (λ (r : Row)
 unfolding stepsIn
 steps-right = refl
 
--- the limits: n steps `.*` and then s; n letters
+-- the limits: n steps `.*` and then s; n letters and then s
+
 stars : ℕ → List ℕ → List ℕ
 stars zero s = s
 stars (suc n) s = 0x2E ∷ 0x2A ∷ stars n s
 
-letters : ℕ → List ℕ
-letters zero = []
-letters (suc n) = 0x61 ∷ letters n
+letters : ℕ → List ℕ → List ℕ
+letters zero s = s
+letters (suc n) s = 0x61 ∷ letters n s
 
 sixteen-steps : queryVerdict (0x24 ∷ stars 16 []) ≡ taken
 unfolding queryVerdict stars
@@ -137,15 +143,55 @@ seventeen-wrong : queryVerdict (0x24 ∷ stars 17 (0x20 ∷ [])) ≡ refused 2 3
 unfolding queryVerdict stars
 seventeen-wrong = refl
 
-longest : queryVerdict (0x24 ∷ 0x2E ∷ letters 1022) ≡ taken
+longest : queryVerdict (0x24 ∷ 0x2E ∷ letters 1022 []) ≡ taken
 unfolding queryVerdict letters
 longest = refl
 
-too-long : queryVerdict (0x24 ∷ 0x2E ∷ letters 1023) ≡ refused 1 1024
+too-long : queryVerdict (0x24 ∷ 0x2E ∷ letters 1023 []) ≡ refused 1 1024
 unfolding queryVerdict letters
 too-long = refl
 
--- ground 1 is tried before ground 2
-too-long-wrong : queryVerdict (letters 1025) ≡ refused 1 1024
+-- a query of 1,025 bytes, change request S-5: its first byte is dead, or the one at 1,023; the one at 1,024; or none is, and a name is cut short
+
+dead-first : queryVerdict (letters 1025 []) ≡ refused 2 0
 unfolding queryVerdict letters
-too-long-wrong = refl
+dead-first = refl
+
+dead-at-1023 : queryVerdict (0x24 ∷ 0x2E ∷ letters 1021 (0x21 ∷ 0x61 ∷ [])) ≡ refused 2 1023
+unfolding queryVerdict letters
+dead-at-1023 = refl
+
+dead-at-1024 : queryVerdict (0x24 ∷ 0x2E ∷ letters 1022 (0x21 ∷ [])) ≡ refused 1 1024
+unfolding queryVerdict letters
+dead-at-1024 = refl
+
+cut-short : queryVerdict (0x24 ∷ 0x5B ∷ 0x27 ∷ letters 1022 []) ≡ refused 1 1024
+unfolding queryVerdict letters
+cut-short = refl
+
+-- of 1,024 bytes, the same faults at 1,023 and at the end
+short-dead : queryVerdict (0x24 ∷ 0x2E ∷ letters 1021 (0x21 ∷ [])) ≡ refused 2 1023
+unfolding queryVerdict letters
+short-dead = refl
+
+short-cut : queryVerdict (0x24 ∷ 0x5B ∷ 0x27 ∷ letters 1021 []) ≡ refused 2 1024
+unfolding queryVerdict letters
+short-cut = refl
+
+-- ground 1 is tried before ground 3, and ground 2 before both: 17 steps in 1,025 bytes, and with a dead byte behind them
+seventeen-long : queryVerdict (0x24 ∷ stars 16 (0x2E ∷ letters 991 [])) ≡ refused 1 1024
+unfolding queryVerdict stars letters
+seventeen-long = refl
+
+seventeen-long-wrong : queryVerdict (0x24 ∷ stars 17 (0x21 ∷ letters 989 [])) ≡ refused 2 35
+unfolding queryVerdict stars letters
+seventeen-long-wrong = refl
+
+-- where ground 1 is tried first, an early fault is not told
+fault-met : EarlyFault (letters 1025 []) 0
+unfolding letters place
+fault-met = record { long = leb-true 1025 (length (letters 1025 [])) refl; dead = dead-place (letters 1025 []); early = leb-true 1 1024 refl }
+
+fault-not-told : byNumber (letters 1025 []) ≡ refused 1 1024
+unfolding byNumber letters
+fault-not-told = refl

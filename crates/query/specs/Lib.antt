@@ -1,9 +1,12 @@
 pub mod Append
 pub mod At
+pub mod ByNumber
+pub mod ByNumberLaws
 pub mod Ended
 pub mod Escapes
 pub mod Examples
 pub mod Grammar
+pub mod LongLaws
 pub mod Machine
 pub mod MachineLaws
 pub mod NamesLaws

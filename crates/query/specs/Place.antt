@@ -8,6 +8,7 @@ use native.Mathlib.Omega.{arith}
 use lib.Dec.{T}
 use lib.ListN.{length, take}
 use Rattle.encoding.specs.Prefix.{Alive, DeadPlace}
+use Rattle.encoding.specs.PrefixLaws.{alive-text, dead-place-unique, dead-place-at}
 use Rattle.encoding.specs.Utf8.{anyTail, afterE0, afterED, afterF0, afterF4}
 use Rattle.query.specs.Grammar as G
 use Rattle.query.specs.Grammar.{Quote, Query, QueryText, text}
@@ -177,3 +178,18 @@ dead-place s = record {
   before = λ i h. let r = place-lives root s (suc i) h in alive (take (suc i) s) (r .0) (r .1);
   dead = λ h x. not-alive (take (suc (place start s)) s) (place-dies root s h) x;
 }
+
+-- the same place by a reading: that where the bytes leave the grammar, or the length of a text that stays in it
+
+pub place-bad : (s : List ℕ) {p : ℕ} → reading root 0 s ≡ bad p → place start s ≡ p
+place-bad s {p} e = go (reading root 0 s) (tells root 0 s) e
+  where
+    go : (r : Reading) → Tells root 0 s r → r ≡ bad p → place start s ≡ p
+    go r (well a f) e = let z : _≡_ {A = ℕ} 0 1 = cc in absurd (omega arith)
+    go r (ill q f g) e = let z : q ≡ p = cc in omega (arith, g)
+
+pub place-good : (s : List ℕ) {a : Ahead} → reading root 0 s ≡ good a → place start s ≡ length s
+place-good s {a} e =
+    let x = sound s (of-good root 0 s (reading root 0 s) a (tells root 0 s) e) in
+    dead-place-unique QueryText s (dead-place s)
+    (dead-place-at QueryText s (length s) (omega arith) (alive-text QueryText s (length s) x) (λ h. absurd (omega arith)))

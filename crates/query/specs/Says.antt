@@ -2,7 +2,7 @@
 use mathlib.Core.Path.{_≡_, refl, ap, ap₂, sym, subst, _∙_}
 use mathlib.Core.List.{List, [], _∷_, _++_, map}
 use mathlib.Core.Bool.{Bool, true, false, true≢false}
-use mathlib.Core.Logic.{_↔_}
+use mathlib.Core.Logic.{_↔_, _⊎_, inl, inr}
 use Prim.Native.Nat.{ℕ, zero, suc, _+_, _≤_, _<_}
 use native.Mathlib.Nat.{le-of-suc-le-suc}
 use native.Mathlib.Omega.{arith}
@@ -11,19 +11,19 @@ use lib.ListN.{length, length-append}
 use borrow.Author.Tests.{leb-true, leb-false, le-leb, lt-leb}
 use Rattle.encoding.specs.BytesLaws.{size}
 use Rattle.encoding.specs.Prefix.{DeadPlace}
-use Rattle.encoding.specs.PrefixLaws.{dead-place-unique}
+use Rattle.encoding.specs.PrefixLaws.{alive-text, dead-place-unique}
 use Rattle.encoding.specs.Verdict
 use Rattle.encoding.specs.Verdict.{Verdict, refused}
 use Rattle.query.specs.Grammar.{Spaced, Query, QueryText, putSpaced, putQuery, text, stepsOf}
 use Rattle.query.specs.Steps.{Step}
-use Rattle.query.specs.Machine.{root}
+use Rattle.query.specs.Machine.{root, place, start}
 use Rattle.query.specs.Read.{Placed, named, Reading, good, reading, stepsRead}
 use Rattle.query.specs.Append.{append-spaced}
 use Rattle.query.specs.Text.{placed, reads-text}
 use Rattle.query.specs.NamesLaws.{written-decoded}
 use Rattle.query.specs.Sound.{sound}
 use Rattle.query.specs.Place.{Tells, well, ill, tells, accepts-text, dead-place}
-use Rattle.query.specs.Verdict.{maxQueryBytes, maxSteps, decodedStep, stepsIn, placeOf, counted, judged, queryVerdict}
+use Rattle.query.specs.Verdict.{maxQueryBytes, maxSteps, decodedStep, stepsIn, placeOf, counted, judged, overlong, queryVerdict}
 use Rattle.query.specs.Verdict.{QuerySays, taken, long, wrong, many}
 
 -- the steps
@@ -93,25 +93,48 @@ says-judged s r l e (well a f) =
     let y : placed 1 (x .tree) ≡ a .later = ap stepsRead z in
     subst (λ (k : List Placed). QuerySays s (counted k)) y (says-counted s (x .tree) l (x .written))
 says-judged s r l e (ill p f g) =
-    wrong l (λ x. true≢false (sym (accepts-text s x) ∙ f)) p (subst (DeadPlace QueryText s) (sym (g ∙ omega arith)) (dead-place s))
+    wrong (λ x. true≢false (sym (accepts-text s x) ∙ f)) p (subst (DeadPlace QueryText s) (sym (g ∙ omega arith)) (dead-place s)) (inl l)
+
+-- a text of the grammar has no dead byte
+dead-wrong : (s : List ℕ) (p : ℕ) → DeadPlace QueryText s p → p < length s → QueryText s → ⊥
+dead-wrong s p d h x = d .dead h (alive-text QueryText s (suc p) x)
+
+says-overlong : (s : List ℕ) → maxQueryBytes < length s → QuerySays s (overlong (place start s))
+unfolding overlong
+says-overlong s h = go (place start s) (dead-place s) (leb maxQueryBytes (place start s)) refl
+  where
+    go : (p : ℕ) → DeadPlace QueryText s p → (b : Bool) → leb maxQueryBytes p ≡ b →
+        QuerySays s (elim b [ true ↦ refused 1 maxQueryBytes | false ↦ refused 2 p ])
+    go p d true f = long h p d (leb-true maxQueryBytes p f)
+    go p d false f = let l = leb-false maxQueryBytes p f in wrong (dead-wrong s p d (omega arith)) p d (inr l)
 
 -- a query's verdict by computing is what the grounds say
 pub querySays : (s : List ℕ) → QuerySays s (queryVerdict s)
 unfolding queryVerdict
 querySays s = go (leb (length s) maxQueryBytes) refl
   where
-    go : (b : Bool) → leb (length s) maxQueryBytes ≡ b → QuerySays s (elim b [ true ↦ judged (reading root 0 s) | false ↦ refused 1 maxQueryBytes ])
+    go : (b : Bool) → leb (length s) maxQueryBytes ≡ b → QuerySays s (elim b [ true ↦ judged (reading root 0 s) | false ↦ overlong (place start s) ])
     go true f = says-judged s (reading root 0 s) (leb-true (length s) maxQueryBytes f) refl (tells root 0 s)
-    go false f = long (leb-false (length s) maxQueryBytes f)
+    go false f = says-overlong s (leb-false (length s) maxQueryBytes f)
 
 -- the verdict of a query that is not too long
 pub short-enough : (s : List ℕ) → length s ≤ maxQueryBytes → queryVerdict s ≡ judged (reading root 0 s)
 unfolding queryVerdict
 short-enough s l = rw (le-leb (length s) maxQueryBytes l, queryVerdict)
 
-pub too-long : (s : List ℕ) → maxQueryBytes < length s → queryVerdict s ≡ refused 1 maxQueryBytes
+-- of one that is too long, by the place of its dead byte
+
+pub too-long : (s : List ℕ) → maxQueryBytes < length s → queryVerdict s ≡ overlong (place start s)
 unfolding queryVerdict
 too-long s h = rw (lt-leb (length s) maxQueryBytes h, queryVerdict)
+
+pub early : (p : ℕ) → p < maxQueryBytes → overlong p ≡ refused 2 p
+unfolding overlong
+early p h = rw (lt-leb maxQueryBytes p h, overlong)
+
+pub late : (p : ℕ) → maxQueryBytes ≤ p → overlong p ≡ refused 1 maxQueryBytes
+unfolding overlong
+late p h = rw (le-leb maxQueryBytes p h, overlong)
 
 verdict-text : (s : List ℕ) (t : Query) → length s ≤ maxQueryBytes → text t ≡ s → queryVerdict s ≡ counted (placed 1 t)
 unfolding judged
@@ -130,11 +153,19 @@ unfolding judged
 wrong-only s p r f d (well a e) = absurd (f (sound s e))
 wrong-only s p r f d (ill q e g) = ap (refused 2) (dead-place-unique QueryText s d (dead-place s) ∙ sym (g ∙ omega arith))
 
+overlong-only : (s : List ℕ) (p : ℕ) → maxQueryBytes < length s → DeadPlace QueryText s p → overlong p ≡ queryVerdict s
+overlong-only s p h d = ap overlong (dead-place-unique QueryText s d (dead-place s)) ∙ sym (too-long s h)
+
 -- what the grounds say of a query is its verdict by computing
 pub query-says-only : (s : List ℕ) (v : Verdict) → QuerySays s v → v ≡ queryVerdict s
 query-says-only s v (taken l t e h) = sym (verdict-text s t l e ∙ few (placed 1 t) (omega (arith, length-placed t 1)))
-query-says-only s v (long h) = sym (too-long s h)
-query-says-only s v (wrong l f p d) = wrong-only s p (reading root 0 s) f d (tells root 0 s) ∙ sym (short-enough s l)
+query-says-only s v (long h p d l) = sym (late p l) ∙ overlong-only s p h d
+query-says-only s v (wrong f p d l) = go l (leb (length s) maxQueryBytes) refl
+  where
+    go : (length s ≤ maxQueryBytes) ⊎ (p < maxQueryBytes) → (b : Bool) → leb (length s) maxQueryBytes ≡ b → refused 2 p ≡ queryVerdict s
+    go l true e = wrong-only s p (reading root 0 s) f d (tells root 0 s) ∙ sym (short-enough s (leb-true (length s) maxQueryBytes e))
+    go (inl l) false e = absurd (omega (arith, leb-false (length s) maxQueryBytes e))
+    go (inr l) false e = sym (early p l) ∙ overlong-only s p (leb-false (length s) maxQueryBytes e) d
 query-says-only s v (many l t x u e h) =
     sym
     (verdict-text s (t ++ x ∷ u) l e ∙ too-many (placed 1 (t ++ x ∷ u)) (omega (arith, length-placed (t ++ x ∷ u) 1, length-append t (x ∷ u))) ∙
@@ -147,6 +178,6 @@ query-taken s = ((λ e. go (queryVerdict s) (querySays s) e), (λ x. sym (query-
   where
     go : (v : Verdict) → QuerySays s v → v ≡ Verdict.taken → (length s ≤ maxQueryBytes) × (t : Query) × (text t ≡ s) × (length t ≤ maxSteps)
     go v (taken l t e h) f = (l, t, e, h)
-    go v (long h) f = absurd (omega (arith, ap (λ (x : Verdict). x .ground) f))
-    go v (wrong l g p d) f = absurd (omega (arith, ap (λ (x : Verdict). x .ground) f))
+    go v (long h p d l) f = absurd (omega (arith, ap (λ (x : Verdict). x .ground) f))
+    go v (wrong g p d l) f = absurd (omega (arith, ap (λ (x : Verdict). x .ground) f))
     go v (many l t x u e h) f = absurd (omega (arith, ap (λ (x : Verdict). x .ground) f))

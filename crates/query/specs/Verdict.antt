@@ -1,8 +1,9 @@
 -- Grounds 1 to 3 of a query's bytes with their places, and its steps, by computing; and what each ground says (document 01, "Grounds for
--- refusing").
+-- refusing", and change request S-5 for a query on which grounds 1 and 2 both fit).
 use mathlib.Core.Path.{_≡_}
 use mathlib.Core.List.{List, _∷_, _++_, map}
 use mathlib.Core.Bool.{true, false}
+use mathlib.Core.Logic.{_⊎_}
 use Prim.Native.Nat.{ℕ, _+_, _≤_, _<_}
 use lib.Dec.{leb}
 use lib.ListN.{length, getD}
@@ -13,7 +14,7 @@ use Rattle.encoding.specs.Verdict.{Verdict, refused}
 use Rattle.query.specs.Grammar.{Spaced, Query, QueryText, text}
 use Rattle.query.specs.Steps.{Selector, Step}
 use Rattle.query.specs.Steps as S
-use Rattle.query.specs.Machine.{root}
+use Rattle.query.specs.Machine.{root, place, start}
 use Rattle.query.specs.Read.{Placed, Reading, good, bad, reading, stepsRead}
 
 abbrev pub maxQueryBytes : ℕ
@@ -53,19 +54,23 @@ unfolding counted
 judged (good a) = counted (a .later)
 judged (bad p) = refused 2 p
 
--- ground 1, and then the others
+-- of more than 1,024 bytes, by the place of the dead byte: "Ground 2 goes first when its place is below 1,024", and else it is ground 1
+unfoldable pub overlong : ℕ → Verdict
+overlong p = elim (leb maxQueryBytes p) [ true ↦ refused 1 maxQueryBytes | false ↦ refused 2 p ]
+
+-- grounds 1 to 3
 unfoldable pub queryVerdict : List ℕ → Verdict
-unfolding judged reading
-queryVerdict s = elim (leb (length s) maxQueryBytes) [ true ↦ judged (reading root 0 s) | false ↦ refused 1 maxQueryBytes ]
+unfolding judged reading overlong place
+queryVerdict s = elim (leb (length s) maxQueryBytes) [ true ↦ judged (reading root 0 s) | false ↦ overlong (place start s) ]
 
 -- what a verdict says of a query
 pub data QuerySays (s : List ℕ) : Verdict → Type 0 where
   -- none of the grounds 1 to 3 fits
   taken : length s ≤ maxQueryBytes → (t : Query) → text t ≡ s → length t ≤ maxSteps → QuerySays s Verdict.taken
-  -- ground 1: more than 1,024 bytes
-  long : maxQueryBytes < length s → QuerySays s (refused 1 maxQueryBytes)
-  -- ground 2: not in the grammar; the place of its dead byte
-  wrong : length s ≤ maxQueryBytes → (QueryText s → ⊥) → (p : ℕ) → DeadPlace QueryText s p → QuerySays s (refused 2 p)
+  -- ground 1: more than 1,024 bytes, and its dead byte does not stand below 1,024
+  long : maxQueryBytes < length s → (p : ℕ) → DeadPlace QueryText s p → maxQueryBytes ≤ p → QuerySays s (refused 1 maxQueryBytes)
+  -- ground 2: not in the grammar; the place of its dead byte, which stands below 1,024 where the query has more than 1,024 bytes
+  wrong : (QueryText s → ⊥) → (p : ℕ) → DeadPlace QueryText s p → (length s ≤ maxQueryBytes) ⊎ (p < maxQueryBytes) → QuerySays s (refused 2 p)
   -- ground 3: x is the 17th step; the place of the `.` or `[` that begins it, after the blanks before it
   many : length s ≤ maxQueryBytes → (t : Query) (x : Spaced) (u : Query) → text (t ++ x ∷ u) ≡ s → length t ≡ maxSteps →
       QuerySays s (refused 3 (length (text t) + length (x .before)))

@@ -3,91 +3,39 @@
 use mathlib.Core.Path.{_≡_, refl, ap, sym, subst, _∙_}
 use mathlib.Core.Bool.{true, false≢true}
 use mathlib.Core.List.{List, [], _∷_, _++_, map, append-assoc, append-nil}
+use mathlib.Core.Logic.{_⊎_, inl, inr}
 use Prim.Native.Nat.{ℕ, suc, _≤_, _<_}
 use native.Mathlib.Omega.{arith}
 use denote.Enum.Declared.{tagOf}
-use lib.ListN.{length, getD, drop, drop-of-length-le, length-append}
+use lib.ListN.{length, getD, take, drop, length-append}
 use Rattle.query_steps.specs.declared.Found.{Found}
 use Rattle.query_steps.specs.declared.StepRead.{StepRead}
-use Rattle.query_steps.specs.declared.StepRead.the-variants.{Taken}
 use Rattle.query_steps.specs.declared.Taking.{Taking}
 use Rattle.query_steps.specs.declared.Taking.the-variants.{Every, Name, Position}
 use Rattle.query_parser.specs.declared.compiled.Compiled.{Compiled}
 use Rattle.query_parser.specs.declared.compiled.Entry.{Entry}
 use Rattle.query_parser.specs.declared.Outcome.{Outcome}
-use Rattle.query_parser.specs.declared.Rest.{Rest}
-use Rattle.query_parser.specs.declared.Rest.the-variants.{Steps, Dead}
 use Rattle.bits.specs.Bits.{bit}
-use Rattle.bits.specs.Laws.{bit-zero}
+use Rattle.bits.specs.Laws.{bit-zero, lt-or-ge}
 use Rattle.encoding.specs.Verdict
 use Rattle.encoding.specs.Verdict.{Verdict, refused}
 use Rattle.query.specs.Steps.{Step}
-use Rattle.query.specs.Machine as M
-use Rattle.query.specs.Machine.{root, done, dead, pick, step}
+use Rattle.query.specs.Machine.{root, done, place, start}
 use Rattle.query.specs.Read.{Placed, named, Reading, good, bad, reading, stepsRead}
 use Rattle.query.specs.Ended.{Ended, clean, cut, ended}
-use Rattle.query.specs.At.{end-at, stop-at, kept-at}
-use Rattle.query.specs.MachineLaws.{miss-only}
-use Rattle.query_steps.specs.Reader
 use Rattle.query_steps.specs.Reader.{readPlace, placedAt, Bounded, push, StepTaken, StepAt}
-use Rattle.query.specs.Verdict.{maxQueryBytes, maxSteps, decodedStep, stepsIn, placeOf, judged, queryVerdict}
-use Rattle.query.specs.Says.{short-enough, too-long, few, too-many}
+use Rattle.query.specs.Verdict.{maxQueryBytes, maxSteps, decodedStep, stepsIn, placeOf, judged, overlong, queryVerdict}
+use Rattle.query.specs.Says.{short-enough, too-long, early, late, few, too-many}
+use Rattle.query.specs.LongLaws.{overlong-take}
 use Rattle.query_parser.specs.Compiles.{HeldTo, Stands, Decodes, Adds}
 use Rattle.query_parser.specs.Holds.{Holds, noSteps}
-use Rattle.query_parser.specs.Answer.{refusal, restOf, overflow, StepsFor, QueryRead}
+use Rattle.query_parser.specs.Answer.{refusal, refusalBy, restOf, overflow, StepsFor, QueryRead}
 use Rattle.query_parser.proofs.Masks.{held-on}
+use Rattle.query_parser.proofs.DeadBytes.{step-refused, nothing-left, empty-at, other-at, root-at}
 use Rattle.query_steps.proofs.StepRead.{the-type}
-use Rattle.query_parser.proofs.Rest as R
 
 abbrev pub refused-with : ℕ → ℕ → Compiled → Outcome
 refused-with g p c = record { ground = g; place = p; steps = c }
-
--- steps were passed over, from n up to i
-pub record RestFrom (q : List ℕ) (n i : ℕ) : Type 0 where
-  pub within : i ≤ length q
-  pub same : restOf (reading done n (drop n q)) ≡ restOf (reading done i (drop i q))
-
-rest-push : (x : Placed) (r : Reading) → restOf (push x r) ≡ restOf r
-rest-push x (good a) = refl
-rest-push x (bad p) = refl
-
--- what a step that was read says
-pub step-taken : {q : List ℕ} {i : ℕ} {r : StepRead} → StepAt q i r → {f : Found} {m : ℕ} → r ≡ Taken f m → StepTaken q i f m
-step-taken {q} {i} s e = go (subst (StepAt q i) e s)
-  where
-    go : {f : Found} {m : ℕ} → StepAt q i (Taken f m) → StepTaken q i f m
-    go (Reader.StepAt.taken f m t) = t
-
--- and what a refusal says
-step-refused : {q : List ℕ} {i : ℕ} {r : StepRead} → StepAt q i r → tagOf the-type r ≡ 1 → reading done i (drop i q) ≡ bad (readPlace r)
-step-refused (Reader.StepAt.taken f m s) t = absurd (omega arith)
-step-refused (Reader.StepAt.refused p s) t = s .reads
-
--- nothing is left to read
-nothing-left : (q : List ℕ) (i : ℕ) → length q ≤ i → reading done i (drop i q) ≡ good (named [] [])
-unfolding reading
-nothing-left q i h = ap (reading done i) (drop-of-length-le q h)
-
-module _ {q : List ℕ} {n i : ℕ} (s : RestFrom q n i) where
-  pub rest-on : {f : Found} {m : ℕ} → StepTaken q i f m → RestFrom q n m
-  rest-on {f} {m} t = record {
-    within = t .within;
-    same = s .same ∙ ap restOf (t .reads) ∙ rest-push (placedAt q f) (reading done m (drop m q));
-  }
-
-  pub rest-refused : {r : StepRead} {p : ℕ} → StepAt q i r → tagOf the-type r ≡ 1 → p ≡ readPlace r → Dead p ≡ restOf (reading done n (drop n q))
-  rest-refused z t e = ap Dead e ∙ sym (s .same ∙ ap restOf (step-refused z t))
-
-  pub rest-end : length q ≤ i → Steps ≡ restOf (reading done n (drop n q))
-  rest-end h = sym (s .same ∙ ap restOf (nothing-left q i h))
-
--- what is refused of a 17th step
-pub overflow-steps : {place : ℕ} {r x : Rest} {a : Outcome} → r ≡ x → tagOf R.the-type r ≡ 0 → a ≡ refusal 3 place → a ≡ overflow place x
-overflow-steps {place} {r} e t f = f ∙ go r t ∙ ap (overflow place) e
-  where
-    go : (r : Rest) → tagOf R.the-type r ≡ 0 → refusal 3 place ≡ overflow place r
-    go Steps t = refl
-    go (Dead p) t = absurd (omega arith)
 
 -- steps, and then what is still to be read
 abbrev prepend : List Placed → Reading → Reading
@@ -126,8 +74,17 @@ refused-answer {q} {names} {g} {p} {a} e f = record {
   steps = subst (λ (v : Verdict). StepsFor q names (v .ground) (a .steps)) (sym e) (ap (λ (x : Outcome). x .steps) f);
 }
 
-pub long-answer : {q names : List ℕ} {a : Outcome} → maxQueryBytes < length q → a ≡ refusal 1 maxQueryBytes → QueryRead q names a
-long-answer {q} h f = refused-answer (too-long q h) f
+-- more than 1,024 bytes: the first 1,024 decide
+pub long-answer : {q names : List ℕ} {a : Outcome} → maxQueryBytes < length q → a ≡ refusalBy (overlong (place start (take maxQueryBytes q)))
+    → QueryRead q names a
+long-answer {q} {names} {a} h f = go (lt-or-ge (place start q) maxQueryBytes)
+  where
+    by : {g p : ℕ} → overlong (place start q) ≡ refused (suc g) p → QueryRead q names a
+    by e = refused-answer (too-long q h ∙ e) (f ∙ ap refusalBy (overlong-take q ∙ e))
+
+    go : (place start q < maxQueryBytes) ⊎ (maxQueryBytes ≤ place start q) → QueryRead q names a
+    go (inl l) = by (early (place start q) l)
+    go (inr l) = by (late (place start q) l)
 
 bad-answer : {q names : List ℕ} {p : ℕ} {a : Outcome} → length q ≤ maxQueryBytes → reading root 0 q ≡ bad p → a ≡ refusal 2 p → QueryRead q names a
 unfolding judged
@@ -136,15 +93,11 @@ bad-answer {q} l e f = refused-answer (short-enough q l ∙ ap judged e) f
 -- the first byte
 
 pub empty-answer : {q names : List ℕ} {a : Outcome} → length q ≡ 0 → a ≡ refusal 2 0 → QueryRead q names a
-empty-answer {q} h f = bad-answer (omega arith) (end-at root q 0 (omega arith) refl) f
-
-no-root : (b : ℕ) → (b ≡ 0x24 → ⊥) → step (M.at root) b ≡ dead
-unfolding step pick
-no-root b f = miss-only 0x24 done [] b f
+empty-answer {q} h f = bad-answer (omega arith) (empty-at q h) f
 
 pub other-answer : {q names : List ℕ} {a : Outcome} → length q ≤ maxQueryBytes → (length q ≡ 0 → ⊥) → (getD q 0 0 ≡ 0x24 → ⊥) → a ≡ refusal 2 0 →
     QueryRead q names a
-other-answer {q} l n g f = bad-answer l (stop-at root q 0 (omega arith) (no-root (getD q 0 0) g)) f
+other-answer {q} l n g f = bad-answer l (other-at q n g) f
 
 -- the steps read so far, with their names among the names, and the place where reading goes on
 pub record SoFar (q names : List ℕ) (c : Compiled) (i : ℕ) : Type 0 where
@@ -153,10 +106,6 @@ pub record SoFar (q names : List ℕ) (c : Compiled) (i : ℕ) : Type 0 where
   pub before : List Placed
   pub held : HeldTo names i (stepsOf before) c
   pub reads : reading root 0 q ≡ prepend before (reading done i (drop i q))
-
-root-leads : step (M.at root) 0x24 ≡ M.at done
-unfolding step
-root-leads = refl
 
 -- no bit is set
 none-on : {X : Type 0} (i : ℕ) → bit i 0 ≡ true → X
@@ -184,7 +133,7 @@ begin-so-far {q} {names} {c} l n e f = record {
   within = omega arith;
   before = [];
   held = subst (HeldTo names 1 []) (sym f) (held-none names 1);
-  reads = kept-at root q 0 (omega arith) done (ap (step (M.at root)) e ∙ root-leads) refl ∙ prepend-none (ended 1 (drop 1 q));
+  reads = root-at q n e ∙ prepend-none (ended 1 (drop 1 q));
 }
 
 -- a name of a step that was read stands in the query; a query that is short enough has it where the buffer has room

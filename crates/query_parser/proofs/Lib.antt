@@ -1,3 +1,4 @@
 pub mod Answers
+pub mod DeadBytes
 pub mod Entries
 pub mod Masks

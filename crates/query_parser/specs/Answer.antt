@@ -6,6 +6,7 @@ use Rattle.query_parser.specs.declared.compiled.Compiled.{Compiled}
 use Rattle.query_parser.specs.declared.Outcome.{Outcome}
 use Rattle.query_parser.specs.declared.Rest.{Rest}
 use Rattle.query_parser.specs.declared.Rest.the-variants.{Steps, Dead}
+use Rattle.encoding.specs.Verdict.{Verdict}
 use Rattle.query.specs.Read.{Reading, good, bad}
 use Rattle.query.specs.Verdict.{stepsIn, queryVerdict}
 use Rattle.query_parser.specs.Holds.{Holds, noSteps}
@@ -13,6 +14,10 @@ use Rattle.query_parser.specs.Holds.{Holds, noSteps}
 -- a refusal holds no steps
 abbrev pub refusal : ℕ → ℕ → Outcome
 refusal g p = record { ground = g; place = p; steps = noSteps }
+
+-- and is by a verdict that refuses
+abbrev pub refusalBy : Verdict → Outcome
+refusalBy v = refusal (v .ground) (v .place)
 
 -- what stands from a place of a query on, by what is read there
 abbrev pub restOf : Reading → Rest

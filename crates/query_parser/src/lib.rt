@@ -12,9 +12,10 @@ ghost use mathlib.Core.Path.{_≡_};
 ghost use Prim.Native.Nat.{_≤_};
 ghost use lib.ListN.{length, drop};
 ghost use Rattle.encoding.specs.RowTable.{RowTable};
-ghost use Rattle.query.specs.Machine.{done};
+ghost use Rattle.query.specs.Machine.{done, place, start};
 ghost use Rattle.query.specs.Read.{reading};
-ghost use Rattle.query_parser.specs.Answer.{refusal, restOf, overflow, QueryRead};
+ghost use Rattle.query.specs.Verdict.{overlong};
+ghost use Rattle.query_parser.specs.Answer.{refusal, refusalBy, restOf, overflow, QueryRead};
 
 const MAX_QUERY_BYTES: usize = 1024;
 
@@ -79,12 +80,42 @@ fn too_many(rows: &Rows, query: &[u8], place: usize, at: usize) -> Outcome
     refuse(WRONG, dead)
 }
 
-// Reads a query: grounds 1 to 3 with their places, tried in this order, and its steps where it is taken, with their names decoded.
+// The place of a query's dead byte, or its length where it has none.
+fn dead_place(query: &[u8]) -> usize
+    ensures { λ r. ⌜ r ≡ place start (now (query .entry)) ⌝ }
+{
+    if query.len() == 0 {
+        return 0;
+    }
+    if query[0] != ROOT {
+        return 0;
+    }
+    let rows = encoding::rows();
+    let Rest::Dead(dead) = read_rest(&rows, query, 1) else {
+        return query.len();
+    };
+    dead
+}
+
+// The refusal of a query of more than 1,024 bytes, which begins with `first`, 1,024 of them: ground 2, if one of these is dead, and else
+// ground 1.
+fn too_long(first: &[u8]) -> Outcome
+    ensures { λ r. ⌜ r ≡ refusalBy (overlong (place start (now (first .entry)))) ⌝ }
+{
+    let dead = dead_place(first);
+    if dead < MAX_QUERY_BYTES {
+        return refuse(WRONG, dead);
+    }
+    refuse(TOO_LONG, MAX_QUERY_BYTES)
+}
+
+// Reads a query: grounds 1 to 3 with their places, and its steps where it is taken, with their names decoded. Of a query that is too long
+// only the first 1,024 bytes are read.
 pub fn read_query(query: &[u8], names: &mut Names) -> Outcome
     ensures { λ r. ⌜ QueryRead (now (query .entry)) (now (names .exit)) r ⌝ }
 {
     if query.len() > MAX_QUERY_BYTES {
-        return refuse(TOO_LONG, MAX_QUERY_BYTES);
+        return too_long(&query[..MAX_QUERY_BYTES]);
     }
     if query.len() == 0 {
         return refuse(WRONG, 0);

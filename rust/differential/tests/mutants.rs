@@ -3,8 +3,8 @@
 
 use differential::{blocks, deep, frames, long, random, Comparison, DeepCall, Engine, Mismatch};
 use oracle::{
-    normalized_path, Answer, Node, Refusal, Selector, Step, Tree, Value, Words, Written,
-    MAX_POSITION,
+    normalized_path, read_steps, Answer, Node, Refusal, Selector, Step, Tree, Value, Words,
+    Written, MAX_POSITION, MAX_QUERY, MAX_STEPS,
 };
 
 const CASES: u64 = 10_000;
@@ -362,6 +362,57 @@ fn positions_that_no_query_may_have() {
         with_query(query, record, list, |query, _| {
             let text = String::from_utf8_lossy(query).into_owned();
             text.replace(&(MAX_POSITION + 1).to_string(), &MAX_POSITION.to_string()).into_bytes()
+        })
+    });
+}
+
+/// The lister with another refusal, a ground and a place, where the query is too long.
+fn where_too_long(
+    query: &[u8],
+    record: &[u8],
+    list: &mut [u32],
+    refusal: impl Fn(&[u8]) -> (u32, usize),
+) -> Answer {
+    if query.len() <= MAX_QUERY {
+        return oracle::list(query, record, list);
+    }
+    let (ground, place) = refusal(query);
+    Answer { ground, place: place as u32, pairs: 0, peak: 0 }
+}
+
+/// Ground 2, if the place of these bytes is below the limit, and else ground 1.
+fn fault_below(limit: usize, query: &[u8]) -> (u32, usize) {
+    match read_steps(query) {
+        Err(place) if place < limit => (2, place),
+        _ => (1, MAX_QUERY),
+    }
+}
+
+#[test]
+fn faults_of_queries_that_are_too_long() {
+    // No fault is told.
+    found_in_lists(|query, record, list| where_too_long(query, record, list, |_| (1, MAX_QUERY)));
+    // Faults are told wherever they stand, or at the limit too.
+    found_in_lists(|query, record, list| {
+        where_too_long(query, record, list, |query| fault_below(usize::MAX, query))
+    });
+    found_in_lists(|query, record, list| {
+        where_too_long(query, record, list, |query| fault_below(MAX_QUERY + 1, query))
+    });
+    // A query that the limit cuts in the middle of a step is called incomplete.
+    found_in_lists(|query, record, list| {
+        where_too_long(query, record, list, |query| fault_below(usize::MAX, &query[..MAX_QUERY]))
+    });
+    // One byte less is read.
+    found_in_lists(|query, record, list| {
+        let last = MAX_QUERY - 1;
+        where_too_long(query, record, list, |query| fault_below(last, &query[..last]))
+    });
+    // Ground 3 goes before ground 1.
+    found_in_lists(|query, record, list| {
+        where_too_long(query, record, list, |query| match read_steps(query) {
+            Ok(steps) if steps.len() > MAX_STEPS => (3, steps[MAX_STEPS].place),
+            _ => fault_below(MAX_QUERY, query),
         })
     });
 }

@@ -207,12 +207,14 @@ pub fn read_steps(query: &[u8]) -> Result<Vec<Step>, usize> {
     Reading { query, at: 0 }.query()
 }
 
-/// The steps of a query that is taken, or the first of grounds 1 to 3 that fits it.
+/// The steps of a query that is taken, or the first of grounds 1 to 3 that fits it, where ground 2
+/// goes before ground 1 if its place is below the limit of ground 1.
 pub fn taken_steps(query: &[u8]) -> Result<Vec<Step>, Refusal> {
-    if query.len() > MAX_QUERY {
+    let read = read_steps(query).map_err(|place| Refusal { ground: 2, place });
+    if query.len() > MAX_QUERY && !matches!(read, Err(Refusal { place: 0..MAX_QUERY, .. })) {
         return Err(Refusal { ground: 1, place: MAX_QUERY });
     }
-    let steps = read_steps(query).map_err(|place| Refusal { ground: 2, place })?;
+    let steps = read?;
     match steps.get(MAX_STEPS) {
         Some(step) => Err(Refusal { ground: 3, place: step.place }),
         None => Ok(steps),

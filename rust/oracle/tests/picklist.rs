@@ -28,7 +28,8 @@ fn the_query_ends_at_the_first_line_feed() {
 
 #[test]
 fn each_ground_that_can_reach_it() {
-    prints(&[vec![b'$'; 1_025], b"\n7".to_vec()].concat(), "refused 1 1024\n");
+    prints(format!("$.{}\n7", "a".repeat(1_023)).as_bytes(), "refused 1 1024\n");
+    prints(format!("$$.{}\n7", "a".repeat(1_023)).as_bytes(), "refused 2 1\n");
     prints(b"$[00]\n7", "refused 2 3\n");
     prints(format!("${}\n7", ".a".repeat(17)).as_bytes(), "refused 3 33\n");
     prints(b"$\n[1,]", "refused 5 3\n");
@@ -52,6 +53,6 @@ fn input_of_65536_bytes_and_of_65537() {
     assert_eq!(MAX_INPUT, 65_536);
     prints(&padded(65_536), "matches 1\n1 0 1\n");
     prints(&padded(65_537), "too long\n");
-    prints(&vec![b'x'; 65_536], "refused 1 1024\n");
+    prints(&vec![b'x'; 65_536], "refused 2 0\n");
     prints(&vec![b'x'; 65_537], "too long\n");
 }

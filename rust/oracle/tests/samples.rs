@@ -49,9 +49,36 @@ fn query_of_1024_bytes_and_of_1025() {
     assert_eq!(answer, Answer { ground: 0, place: 0, pairs: 1, peak: 0 });
     assert_eq!(lent, [5, 6]);
     refused(&padded(1_025), br#"{"a":1}"#, 1, 1_024);
-    // Ground 1 is tried before ground 2.
-    refused(&[b'x'; 1_025], b"", 1, 1_024);
+    refused(&[b'x'; 1_025], b"", 2, 0);
     refused(&[b'x'; 1_024], b"", 2, 0);
+}
+
+/// `before`, then so many letters, then `after`.
+fn around(before: &str, letters: usize, after: &str) -> Vec<u8> {
+    format!("{before}{}{after}", "a".repeat(letters)).into_bytes()
+}
+
+#[test]
+fn faults_of_queries_over_1024_bytes() {
+    let longer = |query: Vec<u8>, bytes: usize, ground: u32, place: usize| {
+        assert_eq!(query.len(), bytes);
+        refused(&query, b"7", ground, place);
+        refused(&query, b"", ground, place);
+    };
+    // The dead byte at 1,023, at 1,024 and behind it.
+    longer(around("$.", 1_021, "!"), 1_024, 2, 1_023);
+    longer(around("$.", 1_021, "!a"), 1_025, 2, 1_023);
+    longer(around("$.", 1_022, "!"), 1_025, 1, 1_024);
+    longer(around("$.", 1_023, "!"), 1_026, 1, 1_024);
+    longer(around("$.", 1_021, &"!".repeat(9_000)), 10_023, 2, 1_023);
+    // None, in a query that is incomplete.
+    longer(around("$['", 1_021, ""), 1_024, 2, 1_024);
+    longer(around("$['", 1_022, ""), 1_025, 1, 1_024);
+    // Ground 3 comes behind both.
+    let sixteen = format!("${}", ".*".repeat(16));
+    longer(around(&format!("{sixteen}."), 990, ""), 1_024, 3, 33);
+    longer(around(&format!("{sixteen}."), 991, ""), 1_025, 1, 1_024);
+    longer(around(&format!("{sixteen}.*!"), 989, ""), 1_025, 2, 35);
 }
 
 #[test]

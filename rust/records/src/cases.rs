@@ -236,10 +236,12 @@ pub fn query(random: &mut Random, names: Names) -> Vec<u8> {
     query
 }
 
-/// A query of 1,022 to 1,027 bytes: blanks before the first step, or a long name.
+/// A query of 1,022 to 1,027 bytes, or of some more: blanks before the first step, or a long name;
+/// half of them with a byte changed, mostly near the limit.
 fn query_of_about_1024_bytes(random: &mut Random, names: Names) -> Vec<u8> {
-    let length = random.between(1_022, 1_027);
-    let steps = random.below(4);
+    let longest = if random.once_in(4) { 3_000 } else { 1_027 };
+    let length = random.between(1_022, longest);
+    let steps = if random.once_in(4) { random.between(15, 17) } else { random.below(4) };
     let rest = query_of(random, names, steps).split_off(1);
     let (before, filling, after): (&[u8], u8, &[u8]) = match random.below(3) {
         0 => (b"$", b' ', b".a"),
@@ -247,7 +249,14 @@ fn query_of_about_1024_bytes(random: &mut Random, names: Names) -> Vec<u8> {
         _ => (b"$['", b'x', b"']"),
     };
     let filled = length.saturating_sub(before.len() + after.len() + rest.len());
-    [before, vec![filling; filled].as_slice(), after, &rest].concat()
+    let mut query = [before, vec![filling; filled].as_slice(), after, &rest].concat();
+    if random.once_in(2) {
+        let last = query.len() - 1;
+        let place =
+            if random.once_in(4) { random.below(last) } else { random.between(1_021, 1_026) };
+        query[place.min(last)] = *random.one_of(TELLING);
+    }
+    query
 }
 
 /// How a record is written: how many values it may still have, and whether blanks stand in it.

@@ -40,5 +40,5 @@ fn the_random_cases() {
         bytes.extend(cases::list(&mut random, numbers % 5).iter().flat_map(|n| n.to_le_bytes()));
         bytes.extend(cases::buffer(&mut random, numbers % 19));
     }
-    assert_eq!((bytes.len(), fingerprint(&bytes)), (1_837_163, 1_341_505_412_438_602_254));
+    assert_eq!((bytes.len(), fingerprint(&bytes)), (2_352_358, 10_487_815_451_148_786_135));
 }

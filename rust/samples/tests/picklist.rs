@@ -25,6 +25,8 @@ const BLOCKS: &[(&str, &str)] = &[
     ("a byte order mark", "refused 5 0\n"),
     ("a query of 1024 bytes", "matches 1\n1 5 6\n"),
     ("a query of 1025 bytes", "refused 1 1024\n"),
+    ("a query of 1025 bytes, a fault at 1023", "refused 2 1023\n"),
+    ("a query of 1025 bytes, a fault at 1024", "refused 1 1024\n"),
     ("16 steps", "matches 1\n1 16 17\n"),
     ("17 steps", "refused 3 33\n"),
     ("512 levels", "matches 1\n1 516 517\n"),
@@ -35,6 +37,7 @@ const BLOCKS: &[(&str, &str)] = &[
     ("65536 bytes, blanks at the end", "matches 1\n1 0 1\n"),
     ("65537 bytes, blanks at the end", "too long\n"),
     ("65536 bytes, no line feed", "refused 1 1024\n"),
+    ("65536 bytes, no line feed, a fault", "refused 2 1\n"),
     ("65537 bytes, no line feed", "too long\n"),
 ];
 

@@ -44,6 +44,11 @@ fn limits_on_both_sides() {
     let longest = format!("$.{}", "a".repeat(MAX_QUERY - 2));
     assert!(list(longest.as_bytes(), b"7").is_ok());
     assert_eq!(refusal(format!("{longest}a").as_bytes(), b"7"), (1, MAX_QUERY));
+    let broken = |place: usize, after: &str| format!("$.{}!{after}", "a".repeat(place - 2));
+    let last = MAX_QUERY - 1;
+    assert_eq!(refusal(broken(last, "").as_bytes(), b"7"), (2, last));
+    assert_eq!(refusal(broken(last, "a").as_bytes(), b"7"), (2, last));
+    assert_eq!(refusal(broken(MAX_QUERY, "").as_bytes(), b"7"), (1, MAX_QUERY));
     let most_steps = format!("${}", ".a".repeat(MAX_STEPS));
     assert!(list(most_steps.as_bytes(), b"7").is_ok());
     assert_eq!(refusal(format!("{most_steps}.a").as_bytes(), b"7"), (3, most_steps.len()));

@@ -1,12 +1,15 @@
 -- `query_parser::read_query` meets its contract: the steps read so far stand before what is still to be read, and are held, with their names;
 -- the end of the query, a dead byte or a seventeenth step decide. The measure is what is left of the query. Assumes nothing.
+use mathlib.Core.Path.{sym}
 use Prim.Native.Nat.{_-_}
 use native.Mathlib.Omega.{arith}
 use borrow.Author.Needs.{needs}
 use lib.ListN.{length}
+use lib.Seq.{length-take-le}
 use Rattle.encoding.specs.RowTable.{RowTable}
 use Rattle.query_parser.proofs.Answers.{long-answer, empty-answer, other-answer, SoFar, begin-so-far, so-far-stands, so-far-room}
-use Rattle.query_parser.proofs.Answers.{so-far-more, so-far-refused, so-far-end, so-far-many, step-taken}
+use Rattle.query_parser.proofs.Answers.{so-far-more, so-far-refused, so-far-end, so-far-many}
+use Rattle.query_parser.proofs.DeadBytes.{step-taken}
 use Rattle.query_parser.proofs.read_query.Statement.{statement}
 use Rattle.query_parser.proofs.read_query.Tie as tie
 
@@ -16,26 +19,29 @@ Inv-loop query names₀ rows steps₀ at₀ names steps at = SoFar query names s
 abbrev μ-loop : tie.MeasureT-loop
 μ-loop query names₀ rows steps₀ at₀ names steps at = length query - at
 
+slice-aggregate-too-long : tie.Need-slice-aggregate-too-long Inv-loop μ-loop
+slice-aggregate-too-long c = sym (length-take-le _ (c .before .before .before .args .query .now) (omega (arith, c .before .if1 .taken)))
+
+too-long-requires : tie.Need-too-long-requires Inv-loop μ-loop
+too-long-requires c κs = search needs
+
+returns : tie.Need-returns Inv-loop μ-loop
+returns c = long-answer (omega (arith, c .before .before .if1 .taken)) (c .too-long .ensures)
+
 refuse-requires : tie.Need-refuse-requires Inv-loop μ-loop
 refuse-requires c κs = search needs
 
-returns : tie.Need-returns Inv-loop μ-loop
-returns c = long-answer (omega arith) (c .refuse .ensures)
-
-refuse-requires-2 : tie.Need-refuse-requires-2 Inv-loop μ-loop
-refuse-requires-2 c κs = search needs
-
 returns-2 : tie.Need-returns-2 Inv-loop μ-loop
-returns-2 c = empty-answer (c .before .if2 .taken) (c .refuse2 .ensures)
+returns-2 c = empty-answer (c .before .if2 .taken) (c .refuse .ensures)
 
 shared-slice-read-if3 : tie.Need-shared-slice-read-if3 Inv-loop μ-loop
 shared-slice-read-if3 c = search needs
 
-refuse-requires-3 : tie.Need-refuse-requires-3 Inv-loop μ-loop
-refuse-requires-3 c κs = search needs
+refuse-requires-2 : tie.Need-refuse-requires-2 Inv-loop μ-loop
+refuse-requires-2 c κs = search needs
 
 returns-3 : tie.Need-returns-3 Inv-loop μ-loop
-returns-3 c = other-answer (omega arith) (c .before .before .before .if2 .left) (c .before .if3 .taken) (c .refuse3 .ensures)
+returns-3 c = other-answer (omega arith) (c .before .before .before .if2 .left) (c .before .if3 .taken) (c .refuse2 .ensures)
 
 rows-requires : tie.Need-rows-requires Inv-loop μ-loop
 rows-requires c κs = search needs
@@ -64,15 +70,15 @@ enum-told c = search needs
 place-of-requires : tie.Need-place-of-requires Inv-loop μ-loop
 place-of-requires c κs = search needs
 
-refuse-requires-4 : tie.Need-refuse-requires-4 Inv-loop μ-loop
-refuse-requires-4 c κs = search needs
+refuse-requires-3 : tie.Need-refuse-requires-3 Inv-loop μ-loop
+refuse-requires-3 c κs = search needs
 
 returns-4 : tie.Need-returns-4 Inv-loop μ-loop
 returns-4 c =
     let refused = c .before .before .before in
     let read = refused .before in
     so-far-refused (read .before .before .before .loop .inv .0) (read .read-step .ensures) (refused .match .keys2) (c .before .place-of .ensures)
-    (c .refuse4 .ensures)
+    (c .refuse3 .ensures)
 
 too-many-requires : tie.Need-too-many-requires Inv-loop μ-loop
 too-many-requires c κs =
@@ -128,12 +134,13 @@ read-query-spec =
     (tie.spec
     Inv-loop
     μ-loop
-    refuse-requires
+    slice-aggregate-too-long
+    too-long-requires
     returns
-    refuse-requires-2
+    refuse-requires
     returns-2
     shared-slice-read-if3
-    refuse-requires-3
+    refuse-requires-2
     returns-3
     rows-requires
     no-steps-requires
@@ -142,7 +149,7 @@ read-query-spec =
     enum-known-read
     enum-told
     place-of-requires
-    refuse-requires-4
+    refuse-requires-3
     returns-4
     too-many-requires
     returns-5

@@ -5,7 +5,7 @@ use Prim.Native.Nat.{_-_}
 use native.Mathlib.Omega.{arith}
 use borrow.Author.Needs.{needs}
 use lib.ListN.{length}
-use Rattle.query_parser.proofs.Answers.{RestFrom, step-taken, rest-on, rest-refused, rest-end}
+use Rattle.query_parser.proofs.DeadBytes.{RestFrom, step-taken, rest-on, rest-refused, rest-end}
 use Rattle.query_parser.proofs.read_rest.Statement.{statement}
 use Rattle.query_parser.proofs.read_rest.Tie as tie
 

@@ -2,7 +2,7 @@
 use mathlib.Core.Path.{sym, ap, _∙_}
 use borrow.Author.Needs.{needs}
 use Rattle.query_parser.specs.Answer.{overflow}
-use Rattle.query_parser.proofs.Answers.{overflow-steps}
+use Rattle.query_parser.proofs.DeadBytes.{overflow-steps}
 use Rattle.query_parser.proofs.too_many.Statement.{statement}
 use Rattle.query_parser.proofs.too_many.Tie as tie
 
