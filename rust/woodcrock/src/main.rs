@@ -72,20 +72,38 @@ impl fmt::Display for Failure {
     }
 }
 
-/// The refusal of a query, and below it the query with a mark at the place, if it can be shown.
+/// How many characters of a query are shown on either side of the place of its refusal, at the most.
+const SHOWN: usize = 60;
+
+/// As many characters before a place and behind it as are shown, with `…` for those that are not.
+fn around(before: &str, behind: &str) -> (String, String) {
+    let left_out = before.chars().count().saturating_sub(SHOWN);
+    let begun = if left_out > 0 { "…" } else { "" };
+    let ended = if behind.chars().count() > SHOWN { "…" } else { "" };
+    let before = begun.chars().chain(before.chars().skip(left_out)).collect();
+    let behind = behind.chars().take(SHOWN).chain(ended.chars()).collect();
+    (before, behind)
+}
+
+/// The refusal of a query, and below it what stands around the place, with a mark there, if it can be
+/// shown.
 fn explain_query(out: &mut fmt::Formatter, refusal: Refusal, query: &[u8]) -> fmt::Result {
     let Refusal { ground, place } = refusal;
     match ground {
+        Ground::QueryTooLong => return write!(out, "{refusal}"),
         Ground::QueryMalformed if place == query.len() => write!(out, "the query is incomplete")?,
         _ => write!(out, "{refusal}")?,
     }
-    let (Ok(text), Ok(before)) = (str::from_utf8(query), str::from_utf8(&query[..place])) else {
+    let (Ok(before), Ok(behind)) =
+        (str::from_utf8(&query[..place]), str::from_utf8(&query[place..]))
+    else {
         return Ok(());
     };
-    if ground == Ground::QueryTooLong || text.chars().any(char::is_control) {
+    let (before, behind) = around(before, behind);
+    if before.contains(char::is_control) || behind.contains(char::is_control) {
         return Ok(());
     }
-    write!(out, "\n  {text}\n  {:1$}^", "", before.chars().count())
+    write!(out, "\n  {before}{behind}\n  {:1$}^", "", before.chars().count())
 }
 
 /// The refusal of a record, with the line and the column, in bytes, of its place.

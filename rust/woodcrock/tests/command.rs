@@ -134,6 +134,12 @@ fn wrong_usage() {
 fn refusals_of_the_query() {
     let long = format!("$.{}", "a".repeat(1_023));
     fails(&[&long], b"7", 11, "the query has more than 1024 bytes");
+    let broken = format!("{}!{long}", &long[..1_023]);
+    let shown = format!("…{}!$.{}…\n  {}^", "a".repeat(60), "a".repeat(57), " ".repeat(61));
+    fails(&[&broken], b"7", 12, &format!("the query is malformed at byte 1023\n  {shown}"));
+    let shown = format!("${}…\n   ^", "a".repeat(60));
+    let broken = long.replace("$.", "$");
+    fails(&[&broken], b"7", 12, &format!("the query is malformed at byte 1\n  {shown}"));
     fails(&["$[00]"], b"7", 12, "the query is malformed at byte 3\n  $[00]\n     ^");
     fails(&["$.é. b"], b"7", 12, "the query is malformed at byte 5\n  $.é. b\n      ^");
     fails(&["$.a."], b"7", 12, "the query is incomplete\n  $.a.\n      ^");
