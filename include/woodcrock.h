@@ -39,14 +39,16 @@ extern "C" {
 #endif
 
 /*
- * Grounds for refusing. They are tried by number; between 5 and 6 the smaller place decides.
+ * Grounds for refusing. They are tried by number, but 2 goes before 1 where its place is below 1,024,
+ * and between 5 and 6 the smaller place decides.
  *
  * A dead byte of a text is the first one with which no text of its grammar can begin up to and
  * including it. If there is none and the text is incomplete, the place is the text's length.
  */
 enum {
     WOODCROCK_NO_GROUND = 0,        /* no refusal; place 0 */
-    WOODCROCK_QUERY_TOO_LONG = 1,   /* the query has more than 1,024 bytes; place 1,024 */
+    WOODCROCK_QUERY_TOO_LONG = 1,   /* the query has more than 1,024 bytes, and none of the first
+                                       1,024 is dead; place 1,024 */
     WOODCROCK_QUERY_MALFORMED = 2,  /* the query is not in the grammar; place of its dead byte */
     WOODCROCK_TOO_MANY_STEPS = 3,   /* more than 16 steps; place of the '.' or '[' of the 17th */
     WOODCROCK_RECORD_TOO_LONG = 4,  /* the record has more than 16,777,216 bytes; that place */

@@ -4,15 +4,25 @@ use crate::{MAX_LEVELS, MAX_STEPS};
 use std::error::Error;
 use std::fmt;
 
-/// A ground for refusing. The grounds are tried by number, but between 5 and 6 the smaller place
-/// decides.
+/// A ground for refusing. The grounds are tried by number, but 2 goes before 1 where its place is below
+/// [`MAX_QUERY`](crate::MAX_QUERY), and between 5 and 6 the smaller place decides.
 #[derive(Clone, Copy, PartialEq, Eq, PartialOrd, Ord, Hash, Debug)]
 #[repr(u32)]
 pub enum Ground {
-    /// The query has more than [`MAX_QUERY`](crate::MAX_QUERY) bytes; the place is that number.
+    /// The query has more than [`MAX_QUERY`](crate::MAX_QUERY) bytes, and none of those before that
+    /// place is dead; the place is that number.
     QueryTooLong = 1,
     /// The query is not in the grammar; the place is that of its dead byte: the first one with
     /// which no query can begin up to and including it, or the length of a query that is incomplete.
+    /// So a fault near the beginning is told of a query that is too long as well:
+    ///
+    /// ```
+    /// use woodcrock::{list, Ground, Refusal};
+    ///
+    /// let query = format!("$.lot-number{}", "['lot']".repeat(200));
+    /// let refusal = Refusal { ground: Ground::QueryMalformed, place: 5 };
+    /// assert_eq!(list(query.as_bytes(), b"{}").err(), Some(refusal));
+    /// ```
     QueryMalformed = 2,
     /// The query has more than [`MAX_STEPS`] steps; the place is that of the `.`
     /// or `[` that begins the first step too many.
