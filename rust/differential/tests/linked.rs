@@ -4,6 +4,8 @@ use differential::{
     blocks, deep, frames, long, random, samples, short, steps, Comparison, Counts, Linked,
     Mismatch, DEEP_CALLS, SMALL_STACK,
 };
+use oracle::MAX_QUERY;
+use std::ffi::{c_int, c_long, c_void};
 use std::ptr::{null, null_mut, NonNull};
 use woodcrock::sys::{
     woodcrock_find_value, woodcrock_list_jumping, woodcrock_list_plain, woodcrock_sort_block,
@@ -111,5 +113,58 @@ fn empty_parts() {
         let words = unsafe { woodcrock_sort_block(bytes, 0, true, true) };
         assert_eq!((words.quotes, words.strings, words.opening, words.closing), (0, 0, 0, 0));
         assert!(words.inside && words.odd);
+    }
+}
+
+/// Two pages of memory, of which the second can be neither read nor written (`mmap` and `mprotect` of
+/// the C library, with the numbers of Linux on x86-64), and where the second begins.
+fn before_a_closed_page() -> *mut u8 {
+    extern "C" {
+        fn mmap(
+            address: *mut c_void,
+            length: usize,
+            protection: c_int,
+            flags: c_int,
+            file: c_int,
+            offset: c_long,
+        ) -> *mut c_void;
+        fn mprotect(address: *mut c_void, length: usize, protection: c_int) -> c_int;
+    }
+    const PAGE: usize = 4_096;
+    let (closed, open, private_and_anonymous) = (0, 3, 0x22);
+    // SAFETY: the pages are new ones, of which nothing else knows.
+    unsafe {
+        let pages = mmap(null_mut(), 2 * PAGE, open, private_and_anonymous, -1, 0);
+        assert_ne!(pages as isize, -1);
+        let second = pages.cast::<u8>().add(PAGE);
+        assert_eq!(mprotect(second.cast(), PAGE, closed), 0);
+        second
+    }
+}
+
+/// Of a query that is too long the first 1,024 bytes are read, and no other: those behind them stand in
+/// a page that cannot be read.
+#[test]
+fn the_first_1024_bytes_of_a_query_that_is_too_long() {
+    let name = "a".repeat(MAX_QUERY - 2);
+    let (whole, cut) = (format!("$.{name}"), format!("$[{name}").replacen("[a", "['", 1));
+    let steps = format!("${}.{}", ".*".repeat(16), "a".repeat(MAX_QUERY - 34));
+    let broken = format!("{}!", &whole[..MAX_QUERY - 1]);
+    let early = format!("$!{name}");
+    let behind = before_a_closed_page();
+    for (first, ground, place) in
+        [(whole, 1, 1_024), (cut, 1, 1_024), (steps, 1, 1_024), (broken, 2, 1_023), (early, 2, 1)]
+    {
+        assert_eq!(first.len(), MAX_QUERY);
+        for lister in [woodcrock_list_plain as Lister, woodcrock_list_jumping] {
+            // SAFETY: the bytes that are written stand before the closed page. Those behind them are
+            // no bytes that a caller may lend; the call must not look at them.
+            let answer = unsafe {
+                let query = behind.sub(MAX_QUERY);
+                query.copy_from_nonoverlapping(first.as_ptr(), MAX_QUERY);
+                lister(query, MAX_QUERY + 1, b"7".as_ptr(), 1, null_mut(), 0)
+            };
+            assert_eq!((answer.ground, answer.place), (ground, place), "{first}");
+        }
     }
 }
