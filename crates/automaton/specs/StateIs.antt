@@ -19,9 +19,9 @@ use Rattle.select.specs.VisitsMap.{over, visits_map}
 use Rattle.select.specs.Ways.{mark, picks_back, picks, same_marks, frames}
 use Rattle.automaton.specs.State.{State, next_mark, next_marks, pick_at, next_picked, next, state_at, start}
 
-no_steps_lem : (q : List Step) → length q ≡ 0 → q ≡ []
-no_steps_lem [] e = refl
-no_steps_lem (s ∷ q) e = absurd (omega arith)
+no_steps : (q : List Step) → length q ≡ 0 → q ≡ []
+no_steps [] e = refl
+no_steps (s ∷ q) e = absurd (omega arith)
 
 module _ (q : List Step) where
   marks_at : Way → ℕ
@@ -50,7 +50,7 @@ module _ (q : List Step) where
   picked_next w l = go (length q) refl
     where
       go : (n : ℕ) → length q ≡ n → picks q (l ∷ w) ≡ pick_at q (marks_at w) l n
-      go zero e = ap (λ (z : List Step). picks z (l ∷ w)) (no_steps_lem q e)
+      go zero e = ap (λ (z : List Step). picks z (l ∷ w)) (no_steps q e)
       go (suc k) e = picks_step q k l w e ∙ ap (λ (b : Bool). step_hits (get_elem? q k) l && b) (mark_bit w k (omega arith))
 
   -- two nodes have the same marks exactly if their numbers are equal

@@ -1,5 +1,7 @@
 // Bits of 64-bit words: the lowest that is on, one bit, and eight bytes loaded as a word.
 
+#![tactic(auto)]
+
 ghost use Rattle.std.specs.Prelude.{ℕ, ◌+◌, ◌<◌, ◌≤◌, ◌||◌, ◌&&◌, eqb, ◌≡◌, length};
 ghost use Rattle.bits.specs.Bits.{bit, Lowest};
 ghost use Rattle.bits.specs.Word.{Loaded};

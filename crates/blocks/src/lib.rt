@@ -1,4 +1,6 @@
 // Sorts a block of at most 64 bytes into words of 64 bits, with the facts for the next block.
+#![tactic(auto)]
+
 ghost use Rattle.std.specs.Prelude.{◌≡◌, ℕ, ◌+◌, ◌-◌, ◌^◌, ◌<◌, ◌≤◌, false, length};
 ghost use Rattle.bits.specs.Bits.{bit};
 ghost use Rattle.blocks.specs.Parts.{odd_run, parity, StringsFound, Padded};
@@ -11,7 +13,7 @@ use classifier::classify;
 
 // Words one to four of a block, and the facts that hold after it.
 #[repr(C)]
-#[derive(Drop)]
+#[derive(Clone, Copy)]
 pub struct Words {
     pub quotes: u64,
     pub strings: u64,
@@ -22,7 +24,7 @@ pub struct Words {
 }
 
 // The words of a block with the numbers of its opening and closing brackets.
-#[derive(Drop)]
+#[derive(Clone, Copy)]
 pub struct Counted {
     pub words: Words,
     pub opened: u32,

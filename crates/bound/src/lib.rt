@@ -1,4 +1,6 @@
 // How large the pile gets: a bound on the frames of every listing, from the query alone.
+#![tactic(auto)]
+
 ghost use Rattle.std.specs.Prelude.{List, ◌≡◌, ◌≤◌};
 ghost use Rattle.answers.specs.Bound.{BoundsPile};
 ghost use Rattle.query.specs.Steps.{Step};

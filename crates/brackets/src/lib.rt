@@ -1,4 +1,6 @@
 // The bracket of a block that closes the last open one, by the block's words three and four.
+#![tactic(auto)]
+
 ghost use Rattle.std.specs.Prelude.{◌≡◌, true, ◌+◌, ◌≤◌, ◌<◌};
 ghost use Rattle.bits.specs.Bits.{bit};
 ghost use Rattle.blocks.specs.Counts.{counted_of};

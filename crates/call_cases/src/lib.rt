@@ -1,5 +1,7 @@
 // Runs a file of cases of the public calls. Each line of it is printed as it stands, and below a line that makes calls what they
 // answer; at the end stands the number of such lines. docs/SAMPLES.md has the lines.
+#![tactic(auto)]
+
 mod calls;
 mod lists;
 mod paths;
@@ -37,7 +39,7 @@ const FRAMES: u8 = b'f';
 
 // What the lines so far have set, the bytes of the record and the numbers of a list, which are also the bytes of a buffer; how many of them made calls; and whether all
 // could be read.
-#[derive(Drop)]
+#[derive(Clone, Copy)]
 struct State {
     size: usize,
     numbers: usize,

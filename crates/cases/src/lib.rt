@@ -1,4 +1,6 @@
 // Reads files of cases: their lines, and the numbers and texts that stand on them (docs/SAMPLES.md has the notation). Prints lines.
+#![tactic(auto)]
+
 mod pieces;
 pub mod show;
 

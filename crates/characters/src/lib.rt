@@ -1,5 +1,7 @@
 // Strings of the check of a record (RFC 8259 section 7): runs of plain bytes, escapes, and code points by the rows of UTF-8 or by a table
 // of moves.
+#![tactic(auto)]
+
 ghost use Rattle.std.specs.Prelude.{Bool, ◌≡◌, ◌≤◌, ◌<◌, length, get_or};
 ghost use Rattle.encoding.specs.RowTable.{RowTable};
 ghost use Rattle.lanes.specs.Kinds.{plain};

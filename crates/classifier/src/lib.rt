@@ -1,4 +1,6 @@
 // Finds the quotes, backslashes and brackets among 64 bytes: a word for each class, with a bit for each byte.
+#![tactic(auto)]
+
 ghost use Rattle.std.specs.Prelude.{◌≡◌, ℕ, ◌+◌, ◌*◌, ◌/◌, ◌%◌, ◌<◌, ◌≤◌, length};
 ghost use Rattle.bits.specs.Bits.{bit};
 ghost use Rattle.classifier.specs.Packed.{Swapped, spaced, PackedClasses, Unpacked, Classified};

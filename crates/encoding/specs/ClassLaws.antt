@@ -69,6 +69,7 @@ module _ (b : ℕ) where
   blank_of_lem (inr (inl e)) = (tab, e)
   blank_of_lem (inr (inr (inl e))) = (feed, e)
   blank_of_lem (inr (inr (inr (inl e)))) = (return, e)
+  blank_of_lem (inr (inr (inr (inr e)))) = elim e [ ]
 
   blank_has : (w : Blank) → b ≡ blank_byte w → class_of b ≡ 7
   unfolding class_of

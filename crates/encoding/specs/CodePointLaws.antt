@@ -35,6 +35,14 @@ complete {b} (in_ee_ef l h) (on two_one y (end z)) = ee_ef (make b l h) y z
 complete {b} (in_f0 l h) (on f0_two y (on two_one z (end w))) = f0 (make b l h) y z w
 complete {b} (in_f1_f3 l h) (on three_two y (on two_one z (end w))) = f1_f3 (make b l h) y z w
 complete {b} (in_f4 l h) (on f4_two y (on two_one z (end w))) = f4 (make b l h) y z w
+complete (in_c2_df l h) (on x y o) = elim x [ ]
+complete (in_e0 l h) (on e0_one y (on x z o)) = elim x [ ]
+complete (in_e1_ec l h) (on two_one y (on x z o)) = elim x [ ]
+complete (in_ed l h) (on ed_one y (on x z o)) = elim x [ ]
+complete (in_ee_ef l h) (on two_one y (on x z o)) = elim x [ ]
+complete (in_f0 l h) (on f0_two y (on two_one z (on x w o))) = elim x [ ]
+complete (in_f1_f3 l h) (on three_two y (on two_one z (on x w o))) = elim x [ ]
+complete (in_f4 l h) (on f4_two y (on two_one z (on x w o))) = elim x [ ]
 
 complete_written : {b : ℕ} {d : Due} (f : First b d) (o : Owed d) (s : List ℕ) → put_wide (complete f o) s ≡ b ∷ put_owed o s
 unfolding complete put_wide put_owed make

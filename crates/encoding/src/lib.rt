@@ -1,4 +1,6 @@
 // The class of a byte, and code points by the rows of UTF-8.
+#![tactic(auto)]
+
 ghost use Rattle.std.specs.Prelude.{◌≡◌, ◌≤◌, ◌<◌, length, get_or};
 ghost use Rattle.encoding.specs.Class.{class_of};
 ghost use Rattle.encoding.specs.ClassTable.{ClassTable};

@@ -1,4 +1,6 @@
 // A value that is ahead of the jumping walk: passed at once, or, where it is a container with items that is not dead, entered.
+#![tactic(auto)]
+
 ghost use Rattle.std.specs.Prelude.{◌≤◌, ◌<◌, length};
 ghost use Rattle.encoding.specs.ClassTable.{ClassTable};
 ghost use Rattle.json.specs.Verdict.{max_bytes, max_depth};

@@ -1,4 +1,6 @@
 // The escapes of a name: how many bytes each has, the code point that it stands for, and that in UTF-8.
+#![tactic(auto)]
+
 ghost use Rattle.std.specs.Prelude.{◌≡◌, ◌+◌, ◌-◌, ◌≤◌, ◌<◌, ◌%◌, length, get_or};
 ghost use Rattle.std.proofs.Math.Seq.{slice};
 ghost use Rattle.encoding.specs.Unescape.{hex_value, short_point_of, unit_at, low_at_of};

@@ -1,4 +1,6 @@
 // The value that begins at an offset of a record: where it ends, and its bytes.
+#![tactic(auto)]
+
 ghost use Rattle.std.specs.Prelude.{◌≡◌};
 ghost use Rattle.answers.specs.Finder.{Finds, value_part, part_start, Behind};
 

@@ -1,4 +1,5 @@
 // The record grammar: definitions and theorems, in specs/, and the limits of a record as numbers.
+#![tactic(auto)]
 
 // The levels that a record may nest.
 pub const MAX_DEPTH: usize = 512;

@@ -1,4 +1,6 @@
 // The jumping walk: one loop over an explicit pile of frames, which goes straight to the end of a dead container.
+#![tactic(auto)]
+
 ghost use Rattle.std.specs.Prelude.{◌≡◌, true, false, ◌≤◌, length};
 ghost use Rattle.encoding.specs.ClassTable.{ClassTable};
 ghost use Rattle.json.specs.Verdict.{max_bytes, max_depth};

@@ -1,4 +1,6 @@
 // Eight bytes of a word at once: which of them are not of a kind, and the first of these.
+#![tactic(auto)]
+
 ghost use Rattle.std.specs.Prelude.{◌≡◌, ◌+◌, ◌-◌, ◌%◌, ◌^◌};
 ghost use Rattle.lanes.specs.Kinds.{plain, unquoted, bare, inner, digit, gap, space_byte};
 ghost use Rattle.lanes.specs.Stops.{Stops, FirstByte};

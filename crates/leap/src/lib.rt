@@ -1,4 +1,6 @@
 // The place after a container: by the words that are kept of an earlier block, where these reach that far, and else block by block.
+#![tactic(auto)]
+
 ghost use Rattle.std.specs.Prelude.{List, ℕ, ◌≤◌, length};
 ghost use Rattle.blocks.specs.Counts.{SortedCounted};
 ghost use Rattle.json.specs.Verdict.{max_bytes};

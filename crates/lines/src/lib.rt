@@ -1,4 +1,6 @@
 // The lines of the program `picklist`: the query and the record in its input, and the text for an answer.
+#![tactic(auto)]
+
 pub mod input;
 pub mod output;
 

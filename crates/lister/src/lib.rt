@@ -1,4 +1,6 @@
 // What both listers share: the grounds of refusal before the walk, and the answer after it.
+#![tactic(auto)]
+
 ghost use Rattle.std.specs.Prelude.{◌≡◌, ◌≤◌};
 ghost use Rattle.json.specs.Verdict.{max_bytes};
 ghost use Rattle.lister.specs.Answers.{Admits, refusal, Countable, concluded};

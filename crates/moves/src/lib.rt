@@ -1,5 +1,7 @@
 // Characters of a string of the check of a record, by a table of moves: the word of a byte has six bits for each state, which say where the
 // byte leads from there.
+#![tactic(auto)]
+
 ghost use Rattle.std.specs.Prelude.{◌≡◌, ◌≤◌, ◌<◌, length};
 ghost use Rattle.encoding.specs.RowTable.{RowTable};
 ghost use Rattle.moves.specs.Moves.{MoveAdded, Added, plain_moves, escape_moves, state_of, after_second_of, RowAdded, point_moves};

@@ -1,4 +1,6 @@
 // Names by their code points: a query's name written decoded, and a record's name compared with it.
+#![tactic(auto)]
+
 ghost use Rattle.std.specs.Prelude.{◌≡◌, [], ◌∷◌, ◌+◌, ◌-◌, ◌≤◌, ◌<◌, length};
 ghost use Rattle.std.proofs.Math.Seq.{slice};
 ghost use Rattle.encoding.specs.Bytes.{same_numbers};

@@ -1,4 +1,6 @@
 // Pairs of the lent list, and the peak: what a walk writes and counts at a node.
+#![tactic(auto)]
+
 ghost use Rattle.std.specs.Prelude.{◌≡◌, ◌≤◌};
 ghost use Rattle.automaton.specs.Halves.{end_pair};
 ghost use Rattle.json.specs.Verdict.{max_bytes};

@@ -1,4 +1,6 @@
 // The normalized path of the node that begins at an offset of a record, written into a lent buffer.
+#![tactic(auto)]
+
 ghost use Rattle.std.specs.Prelude.{◌≡◌, ◌-◌, ◌≤◌, length};
 ghost use Rattle.json.specs.Verdict.{max_bytes};
 ghost use Rattle.path.specs.Measured.{path_from, SlotsFrom, MeasuresLabel, Measures};

@@ -1,5 +1,7 @@
 // A record's name as it stands between the quotes of a normalized path: how long it is there, whether it has half of a surrogate pair, and
 // its bytes.
+#![tactic(auto)]
+
 ghost use Rattle.std.specs.Prelude.{◌≡◌, [], ◌*◌, ◌≤◌, ◌<◌, length};
 ghost use Rattle.std.proofs.Math.Seq.{slice};
 ghost use Rattle.encoding.specs.Points.{utf8};

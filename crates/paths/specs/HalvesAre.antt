@@ -104,6 +104,7 @@ pub data HalfIn : Trail → ℕ → Type 0 where
 
 -- such names stand before the node that the trail leads to
 half_before : {r n : Node} {u : Trail} {q : ℕ} → Leads r u n → HalfIn u q → q ≤ n.first
+half_before start x = elim x [ ]
 half_before (down {m} p h) (last x) = (item_stands m h).2
 half_before (down {m} {n} {l = l} p h) (earlier x) = omega (arith, half_before p x, (child_within m (link_label l) n (item_child m h)).0)
 
@@ -155,6 +156,7 @@ points_whole P.none f = W.none
 points_whole (P.more h r) f = W.more (record { ranged = h; no_half = λ l u. f (here l u) }) (points_whole r (λ x. f (there x)))
 
 whole_points : {k : List ℕ} → Whole k → HasHalf k → ⊥
+whole_points W.none x = elim x [ ]
 whole_points (W.more s w) (here l u) = s.no_half l u
 whole_points (W.more s w) (there x) = whole_points w x
 
@@ -195,6 +197,7 @@ half_further (l ∷ v) h = earlier (half_further v h)
 
 module _ (t : Tree) where
   in_half : {u : Trail} {n : Node} {q : ℕ} → Leads (root t) u n → HalfIn u q → HalfOn t n q
+  in_half start x = elim x [ ]
   in_half (down {m} {n} p h) (last {k} x) =
       record { parent = m; above = leads_below p; child = n; name = k; member = h; half = x; below = same }
   in_half (down {m} {l = l} p h) (earlier x) =

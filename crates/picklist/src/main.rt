@@ -1,4 +1,6 @@
 // Reads a query and a record from standard input, and prints the nodes that the query picks out.
+#![tactic(auto)]
+
 const INPUT_SIZE: usize = 65537;
 
 // One byte more than the limit is read, so that a longer input is seen to be too long.

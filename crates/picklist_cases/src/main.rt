@@ -1,5 +1,7 @@
 // Runs a file of cases of the program `picklist`. Each line of it is printed as it stands, and below an input what the program prints
 // for it; at the end stands the number of inputs. docs/SAMPLES.md has the lines.
+#![tactic(auto)]
+
 mod show;
 
 use cases::show::{print_end, print_line};

@@ -1,4 +1,6 @@
 // Where the jumping walk stands, and the pile: a frame for each open container whose marks differ from those around it.
+#![tactic(auto)]
+
 ghost use Rattle.std.specs.Prelude.{◌≡◌, ◌<◌, ◌≤◌, slice_set};
 ghost use Rattle.json.specs.Verdict.{max_bytes, max_depth};
 ghost use Rattle.pile.specs.FrameDepth.{narrowed, widened};
@@ -11,7 +13,7 @@ use pairs::finish;
 // Where the walk stands: the place; whether an item is ahead there, or else a value has been passed; how many containers are open; the
 // frames on the pile and the marks of the innermost container; the pairs used, the most frames, and one more than the first byte of the
 // first node left over, or 0. A new one is written out field by field: a copy would also move the unused bytes behind the last field.
-#[derive(Drop)]
+#[derive(Clone, Copy)]
 pub struct Standing {
     pub at: usize,
     pub depth: usize,

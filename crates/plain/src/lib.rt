@@ -1,4 +1,6 @@
 // The plain walk: it enters each container's values one level down, as the nesting goes, and looks at every node.
+#![tactic(auto)]
+
 ghost use Rattle.std.specs.Prelude.{◌+◌, ◌≤◌, ◌<◌, length};
 ghost use Rattle.encoding.specs.ClassTable.{ClassTable};
 ghost use Rattle.json.specs.Verdict.{max_bytes, max_depth};
@@ -18,7 +20,7 @@ const OBJECT: u8 = b'{';
 const COMMA: u8 = b',';
 
 // The state of a node: its marks, whether it is picked out, and the frames on the way to it.
-#[derive(Drop)]
+#[derive(Clone, Copy)]
 struct State {
     marks: u16,
     picked: bool,

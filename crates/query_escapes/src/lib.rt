@@ -1,5 +1,7 @@
 // A scanner of the escapes of a query's quoted names (RFC 9535 section 2.3.1.1). Each part is scanned by a function of its own, which answers
 // ok and the place after the part, or not ok and the place of the dead byte.
+#![tactic(auto)]
+
 ghost use Rattle.std.specs.Prelude.{◌≡◌, ◌≤◌, length, get_or};
 ghost use Rattle.query.specs.Machine.{first, behind_d_of, digits, high_digits_of, low_backslash, low_d};
 ghost use Rattle.query_escapes.specs.Scans.{Escaped, HexIs, Part, TwoDigits, ThreeDigits, LowDigits, LowHalf, HighDigits, BehindD, BehindU};

@@ -1,4 +1,6 @@
 // Scanners over a query's bytes: blanks, the two kinds of names, and positions.
+#![tactic(auto)]
+
 ghost use Rattle.std.specs.Prelude.{◌≡◌, ◌+◌, ◌-◌, ◌*◌, ◌≤◌, ◌<◌, length, get_or};
 ghost use Rattle.encoding.specs.RowTable.{RowTable};
 ghost use Rattle.query.specs.Grammar.{max_position};

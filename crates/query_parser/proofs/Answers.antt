@@ -28,7 +28,7 @@ use Rattle.query.specs.Verdict.{max_query_bytes, max_steps, decoded_step, steps_
 use Rattle.query.specs.Says.{short_enough, too_long, early, late, few, too_many}
 use Rattle.query.specs.LongLaws.{overlong-take}
 use Rattle.query_parser.specs.Compiles.{HeldTo, Stands, Decodes, Adds}
-use Rattle.query_parser.specs.Holds.{Holds, no_steps}
+use Rattle.query_parser.specs.Holds.{Holds, no_steps_of}
 use Rattle.query_parser.specs.Answer.{refusal, refusal_by, rest_of, overflow, StepsFor, QueryRead}
 use Rattle.query_parser.proofs.Masks.{held_on}
 use Rattle.query_parser.proofs.DeadBytes.{step_refused, nothing_left, empty_at, other_at, root_at}
@@ -111,7 +111,7 @@ pub record SoFar (q names : List ℕ) (c : Compiled) (i : ℕ) : Type 0 where
 none_on : {X : Type 0} (i : ℕ) → bit i 0 ≡ true → X
 none_on i h = absurd (false≢true (sym (bit-zero i) ∙ h))
 
-held_none : (names : List ℕ) (n : ℕ) → HeldTo names n [] no_steps
+held_none : (names : List ℕ) (n : ℕ) → HeldTo names n [] no_steps_of
 held_none names n = record {
   holds = record {
     fits = record { few = omega arith; operands_length = refl; order = λ i h. none_on i h; within = λ i h. none_on i h };
@@ -126,7 +126,7 @@ held_none names n = record {
   ends = λ i h. none_on i h;
 }
 
-pub begin_so_far : {q names : List ℕ} {c : Compiled} → length q ≤ max_query_bytes → (length q ≡ 0 → ⊥) → get_or q 0 0 ≡ 0x24 → c ≡ no_steps
+pub begin_so_far : {q names : List ℕ} {c : Compiled} → length q ≤ max_query_bytes → (length q ≡ 0 → ⊥) → get_or q 0 0 ≡ 0x24 → c ≡ no_steps_of
     → SoFar q names c 1
 begin_so_far {q} {names} {c} l n e f = record {
   short = l;

@@ -7,11 +7,11 @@ use Rattle.query_parser.specs.declared.Rest.TheVariants.{Steps, Dead}
 use Rattle.encoding.specs.Verdict.{Verdict}
 use Rattle.query.specs.Read.{Reading, good, bad}
 use Rattle.query.specs.Verdict.{steps_in, query_verdict}
-use Rattle.query_parser.specs.Holds.{Holds, no_steps}
+use Rattle.query_parser.specs.Holds.{Holds, no_steps_of}
 
 -- a refusal holds no steps
 abbrev pub refusal : ℕ → ℕ → Outcome
-refusal g p = record { ground = g; place = p; steps = no_steps }
+refusal g p = record { ground = g; place = p; steps = no_steps_of }
 
 -- and is by a verdict that refuses
 abbrev pub refusal_by : Verdict → Outcome
@@ -30,7 +30,7 @@ overflow place (Dead p) = refusal 2 p
 -- the steps for a ground: all of the query's where there is none, and none on refusal
 abbrev pub StepsFor : (q names : List ℕ) → ℕ → Compiled → Type 0
 StepsFor q names zero c = Holds names (steps_in q) c.kinds c.operands
-StepsFor q names (suc g) c = c ≡ no_steps
+StepsFor q names (suc g) c = c ≡ no_steps_of
 
 pub record QueryRead (q names : List ℕ) (r : Outcome) : Type 0 where
   pub ground : r.ground ≡ (query_verdict q).ground

@@ -89,8 +89,8 @@ pub record Holds (names : List ℕ) (x : List Step) (k : Kinds) (operands : List
   pub position : (i : ℕ) → bit i k.positioned ≡ true → get_or operands i 0 ≡ position_at (get_elem? x i)
 
 -- no steps: every number is 0
-abbrev pub no_steps : Compiled
-no_steps = record {
+abbrev pub no_steps_of : Compiled
+no_steps_of = record {
   kinds = record { count = 0; deep = 0; every = 0; named = 0; positioned = 0 };
   operands = replicate max_steps 0;
 }

@@ -3,7 +3,7 @@
 ghost use Rattle.std.specs.Prelude.{◌≡◌, ◌<◌};
 ghost use Rattle.query.specs.Verdict.{max_steps};
 ghost use Rattle.query_parser.specs.Compiles.{Stands, Decodes, Adds};
-ghost use Rattle.query_parser.specs.Holds.{name_start_of, name_end_of, no_steps};
+ghost use Rattle.query_parser.specs.Holds.{name_start_of, name_end_of, no_steps_of};
 
 use names::{Names, write_name};
 use query_steps::{Found, Taking};
@@ -15,7 +15,7 @@ const BOUND: u64 = 65_536;
 
 // The kinds of a query's steps: how many steps there are, and for each the bit of its number in the masks of deep steps, of those that
 // take `*`, of those that take a name and of those that take a position.
-#[derive(Drop)]
+#[derive(Clone, Copy)]
 pub struct Kinds {
     pub count: usize,
     pub deep: u16,
@@ -57,8 +57,8 @@ pub fn name_end(operand: u64) -> usize
 }
 
 // No steps: every number is 0.
-pub fn no_steps_lem() -> Compiled
-    ensures { result ≡ no_steps }
+pub fn no_steps() -> Compiled
+    ensures { result ≡ no_steps_of }
 {
     Compiled {
         kinds: Kinds {

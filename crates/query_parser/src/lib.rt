@@ -1,4 +1,6 @@
 // The query reader: grounds 1 to 3, and the steps of a query as masks and operands, with their names decoded.
+#![tactic(auto)]
+
 mod compiled;
 
 ghost use Rattle.std.specs.Prelude.{◌≡◌, ◌≤◌, length, drop};

@@ -1,4 +1,6 @@
 // One step of a query, read by the scanners.
+#![tactic(auto)]
+
 ghost use Rattle.std.specs.Prelude.{◌≡◌, true, ◌≤◌, ◌<◌, length, get_or};
 ghost use Rattle.encoding.specs.RowTable.{RowTable};
 ghost use Rattle.query.specs.Grammar.{Quote, quote_byte};

@@ -1,4 +1,6 @@
 // What the program `picklist` prints, written into a lent buffer.
+#![tactic(auto)]
+
 ghost use Rattle.report.specs.Output.{picklist_output};
 ghost use Rattle.text.specs.Put.{Printed};
 

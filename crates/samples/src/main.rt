@@ -1,5 +1,6 @@
 // Runs the sample rows of document 01 and its limits, both sides, and the places at which a walk can go wrong: the file of cases
 // that is standard input.
+#![tactic(auto)]
 
 // The most bytes of the file.
 const FILE_ROOM: usize = 32768;

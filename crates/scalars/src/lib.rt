@@ -1,4 +1,6 @@
 // Numbers and literal names of the check of a record (RFC 8259 sections 3 and 6), each read from where a value is due up to its end.
+#![tactic(auto)]
+
 ghost use Rattle.std.specs.Prelude.{[], ◌∷◌, ◌<◌, length, get_or};
 ghost use Rattle.scalars.specs.Among.{AmongAt};
 ghost use Rattle.scalars.specs.Scalars.{Bare, Scalar};

@@ -1,4 +1,6 @@
 // Scanners over a checked record: blanks, strings, words, and what stands before an item's value.
+#![tactic(auto)]
+
 ghost use Rattle.std.specs.Prelude.{◌≡◌, false, ◌-◌, ◌≤◌, length, drop};
 ghost use Rattle.blocks.specs.Words.{odd_before};
 ghost use Rattle.encoding.specs.ClassTable.{ClassTable};

@@ -1,4 +1,6 @@
 // The descent from the root of a checked record to the value that begins at an offset, value by value.
+#![tactic(auto)]
+
 ghost use Rattle.std.specs.Prelude.{◌≤◌, length};
 ghost use Rattle.encoding.specs.ClassTable.{ClassTable};
 ghost use Rattle.json.specs.Verdict.{max_bytes};

@@ -11,8 +11,8 @@ use Rattle.select.specs.Marks.{AllSteps}
 use Rattle.select.specs.PileBound.{PileBound, deep, plain, mixed}
 use Rattle.select.specs.PileBoundOf.{all_deep, some_if, one_more, bound_from, pile_bound}
 
-no_steps_lem : {d : Bool} → AllSteps d []
-no_steps_lem s m = absurd (Memᴰ.not-nil m)
+no_steps : {d : Bool} → AllSteps d []
+no_steps s m = absurd (Memᴰ.not-nil m)
 
 one_more_step : {d : Bool} {s : Step} {q : List Step} → s.deep ≡ d → AllSteps d q → AllSteps d (s ∷ q)
 one_more_step {d} {s} {q} e h x m = go (Memᴰ.cases_cons m)
@@ -31,7 +31,7 @@ first_step {s = s} h = h s (Memᴰ.head refl)
 
 all_deep_is : (q : List Step) → all_deep q ≡ true → AllSteps true q
 unfolding all_deep
-all_deep_is [] e = no_steps_lem
+all_deep_is [] e = no_steps
 all_deep_is (s ∷ q) e = let (d, rest) = (and-eq-true_iff s.deep (all_deep q)).0 e in one_more_step d (all_deep_is q rest)
 
 is_all_deep : (q : List Step) → AllSteps true q → all_deep q ≡ true
@@ -111,7 +111,7 @@ deep_first {s} {q} f = go (all_deep q) refl
           plain = [];
           deep = s ∷ q;
           parts = refl;
-          all_plain = no_steps_lem;
+          all_plain = no_steps;
           all_deep_lem = one_more_step f (all_deep_is q e);
           some_deep = omega arith;
         })
@@ -131,7 +131,7 @@ deep_first {s} {q} f = go (all_deep q) refl
 
 pub pile_bound_is : (q : List Step) → PileBound q (pile_bound q)
 unfolding pile_bound bound_from
-pile_bound_is [] = plain no_steps_lem
+pile_bound_is [] = plain no_steps
 pile_bound_is (s ∷ q) = go s.deep refl (pile_bound_is q)
   where
     go : (d : Bool) → s.deep ≡ d → PileBound q (pile_bound q) → PileBound (s ∷ q) (bound_from d q (pile_bound q))

@@ -21,7 +21,7 @@ abbrev pub Reach : Node → Way → Node → Type 0
 Reach r w n = ReachFrom r [] w n
 
 -- one label more, before all others
-from_child : {r c n : Node} {b w : Way} (l : Label) → IsChild r l c → ReachFrom c (l ∷ b) w n → ReachFrom r b w n
+from_child : {r c : Node} {b : Way} (l : Label) → IsChild r l c → {w : Way} {n : Node} → ReachFrom c (l ∷ b) w n → ReachFrom r b w n
 from_child l h start = down l start h
 from_child l h (down l' p h') = down l' (from_child l h p) h'
 
@@ -107,7 +107,7 @@ visits_closed = node_induction Closed up
             let (d, p, q) = of_flat_map (child_visits step b) (children n) h' in
             visit_below b n d.node d.label p (ih d.label d.node p (d.label ∷ b) w m c l q k)
 
-reach_visit : {r n : Node} {b w : Way} → ReachFrom r b w n → Memᴰ (at w n) (node_visits step r b)
+reach_visit : {r : Node} {b : Way} {n : Node} {w : Way} → ReachFrom r b w n → Memᴰ (at w n) (node_visits step r b)
 reach_visit {r} {b = b} start = visit_self b r
 reach_visit {r} {b = b} (down {m} {n} {w} l p c) = visits_closed r b w m n l (reach_visit p) c
 

@@ -1,1 +1,2 @@
 // What a query picks out: definitions and theorems only, in specs/.
+#![tactic(auto)]

@@ -1,1 +1,2 @@
 // Where a record's strings are, and that word two says so: definitions and theorems only, in specs/.
+#![tactic(auto)]

@@ -1,4 +1,6 @@
 // Runs of bytes of one kind, eight bytes at a time.
+#![tactic(auto)]
+
 ghost use Rattle.std.specs.Prelude.{◌≤◌, ◌≡◌, length};
 ghost use Rattle.lanes.specs.Kinds.{plain, unquoted, bare, inner, digit, gap, space_byte};
 ghost use Rattle.lanes.specs.Stops.{Stops};

@@ -1,5 +1,7 @@
 // Parts of a text, each written into a buffer at a place. Each function answers the place after what it wrote, and leaves every other byte
 // as it was.
+#![tactic(auto)]
+
 ghost use Rattle.std.specs.Prelude.{◌≡◌, ◌∷◌, [], ◌++◌, length};
 ghost use Rattle.text.specs.Decimal.{decimal};
 ghost use Rattle.text.specs.Put.{Room, Written};

@@ -1,5 +1,7 @@
 // The descent from the root of a checked record to the value that begins at an offset, value by value, which keeps how each container on the
 // way hangs below the one around it.
+#![tactic(auto)]
+
 ghost use Rattle.std.specs.Prelude.{◌≤◌, length};
 ghost use Rattle.encoding.specs.ClassTable.{ClassTable};
 ghost use Rattle.encoding.specs.Points.{if_else};

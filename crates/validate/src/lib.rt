@@ -1,4 +1,6 @@
 // The check of a record: grounds 4 to 6 of document 01 in one pass, exactly RFC 8259 in UTF-8.
+#![tactic(auto)]
+
 ghost use Rattle.json.specs.Verdict.{text_verdict, record_verdict};
 ghost use Rattle.validate.specs.Checks.{Answers};
 

@@ -1,4 +1,5 @@
 // Runs the published vectors: the file of cases that is standard input, which rust/vectors makes of the suite.
+#![tactic(auto)]
 
 // The most bytes of the file.
 const FILE_ROOM: usize = 81920;

@@ -1,1 +1,2 @@
 // What is ahead of a walk: definitions and laws only, in specs/.
+#![tactic(auto)]

@@ -1,5 +1,7 @@
 // Woodcrock: the nodes of a JSON record that a JSONPath query picks out, how large the pile gets for a query, the end of a value, a
 // value's bytes, the path of a node, and words of bits.
+#![tactic(auto)]
+
 mod jumping_lister;
 mod plain_lister;
 

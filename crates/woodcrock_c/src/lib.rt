@@ -1,4 +1,6 @@
 // The calls of Woodcrock for C, each with the whole promise of the call that it makes. `include/woodcrock.h` declares them.
+#![tactic(auto)]
+
 ghost use Rattle.answers.specs.Bound.{BoundsPile};
 ghost use Rattle.answers.specs.Finder.{Finds};
 ghost use Rattle.blocks.specs.Sorted.{Sorted};

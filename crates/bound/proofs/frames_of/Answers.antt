@@ -1,0 +1,70 @@
+use mathlib.Core.Bool.{Bool, true, false≢true}
+use mathlib.Core.List.{List}
+use mathlib.Core.Logic.{inl, inr}
+use mathlib.Core.Path.{◌≡◌, sym, subst, ◌∙◌}
+use Prim.Native.Nat.{ℕ, ◌-◌}
+use native.Mathlib.Omega.{arith}
+use borrow.Author.Tests.{not-true, not-false}
+use lib.ListN.{length}
+use Rattle.query.specs.Steps.{Step}
+use Rattle.select.specs.PileBoundPassed.{Passed, passed_none, passed_step, passed_mixed, passed_all_plain, passed_all_deep}
+use Rattle.bound.proofs.frames_of.Goals as goal
+
+-- all steps are passed
+passed-all : {count i : ℕ} {found b : Bool} (q : List Step) → i ≡ count → count ≡ length q → found ≡ b → Passed q i found → Passed q (length q) b
+passed-all q e e' f p = rw (← f, ← e', ← e) p
+
+pub loop-i-init : goal.loop-i-init
+loop-i-init c = (omega arith, λ e. absurd (false≢true e), λ q h. passed_none q)
+
+pub has-next-requires : goal.has-next-requires
+has-next-requires c = omega arith
+
+pub returns-then-not-next : goal.returns-then-not-next
+returns-then-not-next c =
+    let i = c.loop-i.i in
+    λ q h.
+    let plain = not-true c.has-next.result c.if-not-next.true-raw in
+    sym
+    (passed_mixed q i (omega (arith, h.number))
+    (subst (Passed q i) c.if-found.true (c.loop-i.invariant.2 q h))
+    (sym (h.deep i) ∙ sym c.has-next.ensures ∙ plain))
+
+pub overflow_add-i : goal.overflow_add-i
+overflow_add-i c = omega arith
+
+pub loop-i-smaller : goal.loop-i-smaller
+loop-i-smaller c = omega arith
+
+pub loop-i-preserved : goal.loop-i-preserved
+loop-i-preserved c =
+    let i = c.loop-i.i in
+    let found = c.loop-i.found in
+    let deep = c.has-next.result in (
+      omega arith,
+      λ e. omega arith,
+      λ q h.
+          passed_step q i (omega (arith, h.number)) found deep
+          (c.loop-i.invariant.2 q h)
+          (sym (h.deep i) ∙ sym c.has-next.ensures)
+          (λ e. elim c.else-found.branch [ inl x ↦ not-false deep x.1.left | inr x ↦ absurd (false≢true (sym x.left ∙ e)) ]),
+    )
+
+pub overflow_sub-result : goal.overflow_sub-result
+overflow_sub-result c = omega (arith, c.loop-i.invariant.1 c.if-found-2.true)
+
+pub overflow_cast-result : goal.overflow_cast-result
+overflow_cast-result c = omega arith
+
+pub returns-then-found-2 : goal.returns-then-found-2
+returns-then-found-2 c =
+    let all : c.loop-i.i ≡ c.args.count = omega arith in
+    λ q h. rw h.number (sym (passed_all_deep q (passed-all q all h.number c.if-found-2.true (c.loop-i.invariant.2 q h))))
+
+pub overflow_cast-result-2 : goal.overflow_cast-result-2
+overflow_cast-result-2 c = omega arith
+
+pub returns : goal.returns
+returns c =
+    let all : c.loop-i.i ≡ c.args.count = omega arith in
+    λ q h. rw h.number (sym (passed_all_plain q (passed-all q all h.number c.if-found-2.false (c.loop-i.invariant.2 q h))))

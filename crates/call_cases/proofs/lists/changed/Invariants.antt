@@ -1,0 +1,10 @@
+-- `call_cases::lists::changed` meets its contract. The loop's invariant: `end` is at most the list's length.
+-- The measure is `end` itself. Assumes nothing.
+use Rattle.std.proofs.Common.{◌≤◌, length}
+use Rattle.call_cases.proofs.lists.changed.Given as goal
+
+abbrev pub invariant-loop-end : goal.invariant-loop-end
+invariant-loop-end l = l.end ≤ length l.list
+
+abbrev pub decreases-loop-end : goal.decreases-loop-end
+decreases-loop-end l = l.end

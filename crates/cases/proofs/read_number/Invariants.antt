@@ -1,0 +1,11 @@
+-- `cases::read_number` meets its contract. The loop's invariant: `i` lies between `at` and the end of the bytes, and the
+-- number is small enough for one digit more. The measure is what is left of the bytes. Assumes nothing.
+use Prim.Native.Nat.{◌<◌, ◌≤◌, ◌-◌}
+use lib.ListN.{length}
+use Rattle.cases.proofs.read_number.Given as goal
+
+abbrev pub invariant-loop-i : goal.invariant-loop-i
+invariant-loop-i l = (l.at ≤ l.i) × (l.i ≤ length l.bytes) × (l.value < 2000000000)
+
+abbrev pub decreases-loop-i : goal.decreases-loop-i
+decreases-loop-i l = length l.bytes - l.i

@@ -1,0 +1,40 @@
+-- The root is the value ahead before any container is open; else the item's name or its position, and its container's marks, give the
+-- value's. Assumes nothing.
+use mathlib.Core.Path.{refl}
+use mathlib.Core.Logic.{⊎_elim}
+use native.Mathlib.Omega.{arith}
+use Rattle.walk.specs.Labels.{of_escaped, of_member, of_array}
+use Rattle.jumping.proofs.Items.{item_due}
+use Rattle.jumping.proofs.Root.{root_comes}
+use Rattle.jumping.proofs.coming.Goals as goal
+
+pub returns-then-a-eq0 : goal.returns-then-a-eq0
+returns-then-a-eq0 c =
+    record {
+      onward = omega arith;
+      within = c.requires.at_in_bounds;
+      due = λ x h whole levels held waits list y. root_comes h y c.requires.item_value.0 c.if-a-eq0.true;
+    }
+
+pub taking_escaped-requires : goal.taking_escaped-requires
+taking_escaped-requires c =
+    let fits = c.requires.fits in
+    let item = c.enter_item-item.ensures in
+    record {
+      count_le_max_steps = (fits.few, λ i on. (fits.order i on, fits.within i on));
+      x_le_y = (item.name_order, item.name_within);
+    }
+
+pub returns : goal.returns
+returns c =
+    record {
+      onward = c.enter_item-item.ensures.onward;
+      within = c.enter_item-item.ensures.within;
+      due = λ x h whole levels held waits list y.
+          item_due h (y.item c.requires.item_value.0 c.if-a-eq0.false) refl refl c.enter_item-item.ensures
+          (λ l labelled. c.advance-child.ensures _ _ l
+          (⊎_elim (λ w. of_escaped _ _ w.0.taken w.3 (w.2.ensures _ refl refl refl) l labelled)
+          (⊎_elim (λ w. of_member _ _ w.0.taken (c.enter_item-item.ensures.bare w.1.left) w.3 w.2.ensures l labelled)
+          (λ w. of_array _ _ w.0.left w.2.ensures w.4 (w.3.ensures _) l labelled))
+          c.if-object.branch));
+    }

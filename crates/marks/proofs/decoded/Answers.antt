@@ -1,0 +1,30 @@
+use Prim.Native.Nat.{◌-◌}
+use native.Mathlib.Omega.{arith}
+use Rattle.marks.specs.Advances.{name_is}
+use Rattle.marks.proofs.Hits.{upto_none, upto_more, upto_all, upto_off, below_lowest, none_left}
+use Rattle.marks.proofs.decoded.Goals as goal
+
+pub loop-i-init : goal.loop-i-init
+loop-i-init c = upto_none _ _ _ (below_lowest _ _ _ c.lowest-i.ensures)
+
+pub returns-then-marks-i-eq0 : goal.returns-then-marks-i-eq0
+returns-then-marks-i-eq0 c = upto_off _ _ _ _ c.loop-i.invariant (none_left _ _ _ c.if-marks-i-eq0.true)
+
+pub has_decoded-spelled-requires : goal.has_decoded-spelled-requires
+has_decoded-spelled-requires c =
+    let few = c.requires.count_le_max_steps.0 in
+    record {
+      i_lt_max_steps = omega arith;
+      operand_bound = c.requires.count_le_max_steps.1 _;
+      x_le_y = c.requires.x_le_y;
+    }
+
+pub loop-i-smaller : goal.loop-i-smaller
+loop-i-smaller c = omega arith
+
+pub loop-i-preserved : goal.loop-i-preserved
+unfolding name_is
+loop-i-preserved c = upto_more _ _ _ _ _ _ c.loop-i-test.true c.loop-i.invariant c.has_decoded-spelled.ensures c.with_bit-hits.ensures
+
+pub returns : goal.returns
+returns c = upto_all _ _ _ _ c.loop-i.invariant c.loop-i-test.false

@@ -1,0 +1,9 @@
+-- `scalars::numbers::many_digits_end` meets its contract: some digits, and then those that are left. Assumes nothing.
+use Rattle.swar.specs.Passing.{run_on}
+use Rattle.scalars.proofs.numbers.many_digits_end.Goals as goal
+
+pub digits_end-requires : goal.digits_end-requires
+digits_end-requires c = c.digit_words-left.ensures.within
+
+pub returns : goal.returns
+returns c = run_on c.digit_words-left.ensures c.digits_end.ensures
