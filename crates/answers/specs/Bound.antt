@@ -1,7 +1,7 @@
 -- What is answered of how large the pile gets for a query (change request S-6), as functions of its bytes.
 use Rattle.std.specs.Prelude.{◌≡◌, List, Bool, true, false, ℕ, zero, suc, ◌-◌}
 use Rattle.std.proofs.Math.Option.{Option, some, none}
-use Rattle.json.specs.Verdict.{max_depth}
+use Rattle.json_text.specs.Verdict.{max_depth}
 use Rattle.query.specs.Verdict.{query_verdict, steps_in}
 use Rattle.select.specs.PileBoundOf.{pile_bound}
 

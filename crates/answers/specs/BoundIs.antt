@@ -7,7 +7,7 @@ use Rattle.std.proofs.Math.Bool.{false}
 use Rattle.std.proofs.Math.Option.{Option, some, none}
 use Prim.Native.Nat.{ℕ, zero, suc, ◌≤◌, ◌<◌}
 use Rattle.encoding.specs.Verdict.{Verdict, taken}
-use Rattle.json.specs.Grammar.{Tree}
+use Rattle.json_text.specs.Grammar.{Tree}
 use Rattle.query.specs.Grammar.{Query, steps_of}
 use Rattle.query.specs.Grammar as Q
 use Rattle.query.specs.Says.{query_says, query_says_only, unambiguous}

@@ -9,15 +9,15 @@ use Rattle.std.proofs.Math.Bool.{true}
 use Prim.Native.Nat.{ℕ, zero, suc, ◌+◌, ◌-◌, ◌*◌, ◌≤◌, ◌<◌}
 use native.Mathlib.Omega.{arith}
 use Rattle.std.proofs.Math.ListN.{length, get_elem?}
-use Rattle.json.specs.Grammar.{Char, put_chars, put_value, nesting}
-use Rattle.json.specs.Grammar as J
-use Rattle.json.specs.Points.{points_of}
+use Rattle.json_text.specs.Grammar.{Char, put_chars, put_value, nesting}
+use Rattle.json_text.specs.Grammar as J
+use Rattle.json_text.specs.Points.{points_of}
 use Rattle.query.specs.Grammar.{Depth, Query, put_query, segment_step, steps_of}
 use Rattle.query.specs.Grammar as Q
 use Rattle.query.specs.Steps.{Step}
 use Rattle.query.specs.Steps as S
 use Rattle.query.specs.Verdict.{max_steps}
-use Rattle.json.specs.Verdict.{max_depth}
+use Rattle.json_text.specs.Verdict.{max_depth}
 use Rattle.select.specs.Nodes.{Label, Node, key_size, children, IsChild, holds, root}
 use Rattle.select.specs.Marks.{Peak, AllSteps}
 use Rattle.select.specs.Visits.{Way}

@@ -1,7 +1,7 @@
 -- That the bounds of change request S-6 are reached, and that no bound holds where a plain step stands behind a deep one, as a statement.
 use Rattle.std.specs.Prelude.{◌≡◌, false, ℕ, ◌+◌, ◌≤◌, ◌<◌, length}
-use Rattle.json.specs.Grammar.{Tree}
-use Rattle.json.specs.Grammar as J
+use Rattle.json_text.specs.Grammar.{Tree}
+use Rattle.json_text.specs.Grammar as J
 use Rattle.query.specs.Grammar.{Query, steps_of}
 use Rattle.query.specs.Grammar as Q
 use Rattle.query.specs.Verdict.{max_steps}

@@ -3,9 +3,9 @@ use Rattle.std.specs.Prelude.{◌≡◌, ◌↔◌, true, ℕ, ◌*◌, ◌≤�
 use mathlib.Core.List.{List, Memᴰ}
 use Rattle.std.proofs.Math.Option.{some}
 use Rattle.std.proofs.Math.ListN.{get_elem?}
-use Rattle.json.specs.Grammar.{Tree, nesting}
-use Rattle.json.specs.Grammar as J
-use Rattle.json.specs.Verdict.{max_bytes, max_depth}
+use Rattle.json_text.specs.Grammar.{Tree, nesting}
+use Rattle.json_text.specs.Grammar as J
+use Rattle.json_text.specs.Verdict.{max_bytes, max_depth}
 use Rattle.query.specs.Grammar.{Query, steps_of}
 use Rattle.query.specs.Grammar as Q
 use Rattle.query.specs.Verdict.{max_query_bytes, max_steps}

@@ -7,8 +7,8 @@ use Rattle.std.proofs.Math.Option.{some}
 use native.Mathlib.Omega.{arith, by_contra}
 use Rattle.std.proofs.Math.ListN.{length, get_elem?}
 use Rattle.std.proofs.Math.Seq.{take_at, drop_at}
-use Rattle.json.specs.Grammar.{Tree}
-use Rattle.json.specs.Grammar as J
+use Rattle.json_text.specs.Grammar.{Tree}
+use Rattle.json_text.specs.Grammar as J
 use Rattle.query.specs.Grammar.{Query, steps_of}
 use Rattle.query.specs.Grammar as Q
 use Rattle.select.specs.Nodes.{Node}

@@ -5,9 +5,9 @@ use Rattle.std.proofs.Common.{ap, arith, leb-true}
 use Rattle.std.proofs.Math.Bool.{and-eq-true_iff}
 use Rattle.std.proofs.lemmas.List.{length-map}
 use Rattle.encoding.specs.Bytes.{space}
-use Rattle.json.specs.Grammar.{Char, Tree, nesting}
-use Rattle.json.specs.Grammar as J
-use Rattle.json.specs.Verdict.{max_bytes, max_depth}
+use Rattle.json_text.specs.Grammar.{Char, Tree, nesting}
+use Rattle.json_text.specs.Grammar as J
+use Rattle.json_text.specs.Verdict.{max_bytes, max_depth}
 use Rattle.query.specs.Steps.{Step}
 use Rattle.query.specs.Grammar.{Query, steps_of}
 use Rattle.query.specs.Grammar as Q

@@ -2,9 +2,9 @@
 use Rattle.std.specs.Prelude.{◌≡◌, List, [], ◌∷◌, true, false, ℕ, zero, suc, ◌+◌, ◌-◌, eqb, take, drop}
 use Rattle.std.proofs.Math.Option.{Option, some, none}
 use Rattle.encoding.specs.Verdict.{Verdict, taken, refused}
-use Rattle.json.specs.Grammar.{Tree}
-use Rattle.json.specs.TreeOf.{tree_of}
-use Rattle.json.specs.Verdict.{record_verdict}
+use Rattle.json_text.specs.Grammar.{Tree}
+use Rattle.json_text.specs.TreeOf.{tree_of}
+use Rattle.json_text.specs.Verdict.{record_verdict}
 use Rattle.select.specs.Nodes.{end_of}
 use Rattle.select.specs.Visits.{Visit, Way, nodes}
 use Rattle.answers.specs.Lister.{or_else}

@@ -1,8 +1,8 @@
 -- What the value finder answers and the value reader returns, in the words of document 01, "Grounds for refusing".
 use Rattle.std.specs.Prelude.{◌≡◌, List, [], ℕ, ◌<◌}
 use Rattle.encoding.specs.Verdict.{Verdict}
-use Rattle.json.specs.Grammar.{Tree, put_value}
-use Rattle.json.specs.Verdict.{RecordSays}
+use Rattle.json_text.specs.Grammar.{Tree, put_value}
+use Rattle.json_text.specs.Verdict.{RecordSays}
 use Rattle.select.specs.Nodes.{Node, IsNode, end_of}
 use Rattle.answers.specs.Within.{RecordIs}
 

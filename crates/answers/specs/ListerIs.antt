@@ -7,10 +7,10 @@ use mathlib.Core.List.{List, [], ◌∷◌, ◌++◌, map, map-append}
 use Rattle.std.proofs.Math.ListN.{length, length-map}
 use Rattle.encoding.specs.Verdict.{Verdict}
 use Rattle.encoding.specs.Verdict as verdict
-use Rattle.json.specs.Grammar.{Tree}
-use Rattle.json.specs.Verdict.{RecordSays, record_verdict}
-use Rattle.json.specs.Says.{record_says, record_says_only}
-use Rattle.json.specs.Verdict as J
+use Rattle.json_text.specs.Grammar.{Tree}
+use Rattle.json_text.specs.Verdict.{RecordSays, record_verdict}
+use Rattle.json_text.specs.Says.{record_says, record_says_only}
+use Rattle.json_text.specs.Verdict as J
 use Rattle.query.specs.Grammar.{Query, steps_of}
 use Rattle.query.specs.Verdict.{QuerySays}
 use Rattle.query.specs.Verdict as Q

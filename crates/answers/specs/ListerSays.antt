@@ -2,8 +2,8 @@
 use Rattle.std.specs.Prelude.{◌≡◌, List, [], ◌∷◌, ◌++◌, ℕ, ◌*◌, ◌≤◌, ◌<◌, length, drop}
 use Rattle.encoding.specs.Verdict.{Verdict}
 use Rattle.encoding.specs.Verdict as verdict
-use Rattle.json.specs.Grammar.{Tree}
-use Rattle.json.specs.Verdict.{RecordSays}
+use Rattle.json_text.specs.Grammar.{Tree}
+use Rattle.json_text.specs.Verdict.{RecordSays}
 use Rattle.query.specs.Grammar.{Query, steps_of}
 use Rattle.query.specs.Verdict.{QuerySays}
 use Rattle.select.specs.Nodes.{Node, end_of}

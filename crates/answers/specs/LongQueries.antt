@@ -1,6 +1,6 @@
 -- Change request S-5 as a statement: which answers of a lister it changes, and to what.
 use Rattle.std.specs.Prelude.{◌≡◌, List, ℕ}
-use Rattle.json.specs.Verdict.{record_verdict}
+use Rattle.json_text.specs.Verdict.{record_verdict}
 use Rattle.query.specs.ByNumber.{EarlyFault, by_number}
 use Rattle.query.specs.Verdict.{max_query_bytes}
 use Rattle.answers.specs.Lister.{or_else, spans_in, peak_in}

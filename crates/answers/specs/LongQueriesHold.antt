@@ -4,7 +4,7 @@ use Rattle.std.specs.Prelude.{◌≡◌, refl, List, ◌⊎◌, ℕ, suc}
 use Rattle.std.proofs.Common.{sym, ap, ◌∙◌, inl, inr, arith}
 use Rattle.encoding.specs.Verdict.{Verdict}
 use Rattle.encoding.specs.Verdict as verdict
-use Rattle.json.specs.Verdict.{record_verdict}
+use Rattle.json_text.specs.Verdict.{record_verdict}
 use Rattle.query.specs.ByNumber.{EarlyFault, by_number}
 use Rattle.query.specs.ByNumberLaws.{early_fault, only_early_faults}
 use Rattle.query.specs.Verdict.{query_verdict}

@@ -1,8 +1,8 @@
 -- Trees of small queries and records, for statements that have to be met by some.
 use Rattle.std.specs.Prelude.{List, [], ◌∷◌, ◌&&◌, ℕ, zero, suc, T, leb}
 use Rattle.encoding.specs.Bytes.{In}
-use Rattle.json.specs.Grammar.{Char, Name, Value, Tree}
-use Rattle.json.specs.Grammar as J
+use Rattle.json_text.specs.Grammar.{Char, Name, Value, Tree}
+use Rattle.json_text.specs.Grammar as J
 use Rattle.query.specs.Grammar.{Depth, Short, Spaced, Query}
 use Rattle.query.specs.Grammar as Q
 

@@ -1,8 +1,8 @@
 -- Query trees and record trees within the limits of document 01: what is taken, in the words of the grammars.
 use Rattle.std.specs.Prelude.{◌≡◌, List, ℕ, ◌≤◌, length}
-use Rattle.json.specs.Grammar.{Tree, nesting}
-use Rattle.json.specs.Grammar as J
-use Rattle.json.specs.Verdict.{max_bytes, max_depth}
+use Rattle.json_text.specs.Grammar.{Tree, nesting}
+use Rattle.json_text.specs.Grammar as J
+use Rattle.json_text.specs.Verdict.{max_bytes, max_depth}
 use Rattle.query.specs.Grammar.{Query}
 use Rattle.query.specs.Grammar as Q
 use Rattle.query.specs.Verdict.{max_query_bytes, max_steps}

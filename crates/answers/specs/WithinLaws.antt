@@ -3,12 +3,12 @@ use Rattle.std.specs.Prelude.{◌≡◌, List, ℕ}
 use Rattle.std.proofs.Common.{sym, ap, ◌∙◌, arith}
 use Rattle.std.proofs.Math.Option.{some}
 use Rattle.encoding.specs.Verdict.{Verdict, taken}
-use Rattle.json.specs.Grammar.{Tree}
-use Rattle.json.specs.TreeOf.{tree_of}
-use Rattle.json.specs.TreeOfLaws.{tree_of_text}
-use Rattle.json.specs.Verdict.{RecordSays, record_verdict}
-use Rattle.json.specs.Verdict as json
-use Rattle.json.specs.Says.{record_says, record_taken}
+use Rattle.json_text.specs.Grammar.{Tree}
+use Rattle.json_text.specs.TreeOf.{tree_of}
+use Rattle.json_text.specs.TreeOfLaws.{tree_of_text}
+use Rattle.json_text.specs.Verdict.{RecordSays, record_verdict}
+use Rattle.json_text.specs.Verdict as json
+use Rattle.json_text.specs.Says.{record_says, record_taken}
 use Rattle.query.specs.Grammar.{Query, steps_of}
 use Rattle.query.specs.Verdict.{QuerySays, steps_in, query_verdict}
 use Rattle.query.specs.Verdict as query

@@ -2,8 +2,8 @@
 use Rattle.std.specs.Prelude.{List, [], ◌∷◌, Bool, true, false, ℕ, zero, suc, ◌+◌, ◌≤◌, length, drop}
 use Rattle.std.proofs.Common.{arith}
 use Rattle.std.proofs.lemmas.List.{length-map}
-use Rattle.json.specs.Append.{length-text}
-use Rattle.json.specs.Grammar.{Tree, text}
+use Rattle.json_text.specs.Append.{length-text}
+use Rattle.json_text.specs.Grammar.{Tree, text}
 use Rattle.query.specs.Steps.{Step}
 use Rattle.select.specs.Nodes.{Node, size, end_of, root}
 use Rattle.select.specs.Order.{Rises, child_within, first_before_end}

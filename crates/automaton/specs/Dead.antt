@@ -8,7 +8,7 @@ use Prim.Native.Nat.{ℕ, zero, suc, ◌+◌, ◌≤◌}
 use Rattle.std.proofs.Math.Nat.{max-eq_left}
 use Rattle.std.proofs.Math.ListN.{get_elem?}
 use Rattle.bits.specs.Laws.{bit-zero}
-use Rattle.json.specs.Grammar.{Kind, Value, literal, number, string, container, Items, empty, items, More, end, more}
+use Rattle.json_text.specs.Grammar.{Kind, Value, literal, number, string, container, Items, empty, items, More, end, more}
 use Rattle.query.specs.Steps.{Step, is_deep}
 use Rattle.select.specs.Nodes.{Label, Node, size, key_size, label_of}
 use Rattle.select.specs.MarksStep.{step_hits}

@@ -8,8 +8,8 @@ use Prim.Native.Nat.{ℕ, zero, suc, ◌+◌, ◌*◌}
 use Rattle.std.proofs.Math.ListN.{length, drop}
 use Rattle.encoding.specs.Verdict.{Verdict}
 use Rattle.encoding.specs.Verdict as verdict
-use Rattle.json.specs.Grammar.{Tree}
-use Rattle.json.specs.Verdict.{record_verdict}
+use Rattle.json_text.specs.Grammar.{Tree}
+use Rattle.json_text.specs.Verdict.{record_verdict}
 use Rattle.query.specs.Verdict.{query_verdict, steps_in}
 use Rattle.select.specs.Ways.{Span, spans, peak}
 use Rattle.answers.specs.Lister.{or_else, input_verdict, spans_of, spans_in, peak_of, peak_in, pairs_of, left_over, list_verdict}

@@ -10,7 +10,7 @@ use Rattle.std.proofs.Math.ListN.{length, get_elem?}
 use Rattle.bits.specs.Bits.{bit, number}
 use Rattle.bits.specs.Laws.{bit_number, number_same}
 use Rattle.query.specs.Steps.{Step, is_deep}
-use Rattle.json.specs.Grammar.{Tree}
+use Rattle.json_text.specs.Grammar.{Tree}
 use Rattle.select.specs.Nodes.{Label, root}
 use Rattle.select.specs.MarksStep.{step_hits, mark_root, mark_root_suc, mark-zero, mark-suc, picks_step, picks_top}
 use Rattle.select.specs.MarksAre.{first_marks}

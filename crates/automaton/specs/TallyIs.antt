@@ -8,7 +8,7 @@ use Prim.Native.Nat.{ℕ, zero, suc, ◌+◌, ◌*◌, ◌/◌, ◌≤◌, max}
 use Rattle.std.proofs.Math.Nat.{zero-max, min-le_left, le-max_left, le-max_right, max-le, max-zero}
 use Rattle.std.proofs.lemmas.List.Edits.{sets, sets-eq}
 use Rattle.query.specs.Steps.{Step}
-use Rattle.json.specs.Grammar.{Tree}
+use Rattle.json_text.specs.Grammar.{Tree}
 use Rattle.select.specs.Nodes.{end_of, root}
 use Rattle.select.specs.Visits.{Visit, Way, node_visits, nodes}
 use Rattle.select.specs.VisitsMap.{over}

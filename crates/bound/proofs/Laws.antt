@@ -8,7 +8,7 @@ use Prim.Native.Nat.{ℕ, zero, suc, ◌≤◌}
 use native.Mathlib.Omega.{arith}
 use denote.Enum.Declared.{tag_of}
 use Rattle.encoding.specs.Verdict.{Verdict, taken}
-use Rattle.json.specs.Verdict.{record_verdict}
+use Rattle.json_text.specs.Verdict.{record_verdict}
 use Rattle.query.specs.Verdict.{max_steps, query_verdict, steps_in}
 use Rattle.query_parser.specs.Holds.{Holds}
 use Rattle.select.specs.PileBoundOf.{pile_bound}

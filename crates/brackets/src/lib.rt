@@ -6,7 +6,7 @@ ghost use Rattle.bits.specs.Bits.{bit};
 ghost use Rattle.blocks.specs.Counts.{counted_of};
 ghost use Rattle.brackets.specs.Closing.{Cleared, NotBoth, FindsClosing};
 ghost use Rattle.brackets.specs.Depth.{after_place};
-ghost use Rattle.json.specs.Verdict.{max_bytes};
+ghost use Rattle.json_text.specs.Verdict.{max_bytes};
 
 use bits::{has, lowest};
 use blocks::Counted;

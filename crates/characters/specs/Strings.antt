@@ -14,10 +14,10 @@ use Rattle.encoding.specs.Utf8At as A
 use Rattle.encoding.specs.Utf8At.{RestAt, ReadsAt, reads_at, scanned_within}
 use Rattle.encoding.specs.WideRun as W
 use Rattle.encoding.specs.WideRun.{WideAt, WideRun, run_moved}
-use Rattle.json.specs.Room.{Room, endless}
-use Rattle.json.specs.Machine.{Ctl, in_string, escaping, hex_due, closed, Stack, State, at, dead, one, span, hex_rules, rules, step, final}
-use Rattle.json.specs.MachineLaws.{inside, past, nowhere, landing, step_range, step_by}
-use Rattle.json.specs.Led.{Led, led_here, led_go, led_die, led_end, led_skip, led_on, led_dead}
+use Rattle.json_text.specs.Room.{Room, endless}
+use Rattle.json_text.specs.Machine.{Ctl, in_string, escaping, hex_due, closed, Stack, State, at, dead, one, span, hex_rules, rules, step, final}
+use Rattle.json_text.specs.MachineLaws.{inside, past, nowhere, landing, step_range, step_by}
+use Rattle.json_text.specs.Led.{Led, led_here, led_go, led_die, led_end, led_skip, led_on, led_dead}
 use Rattle.scalars.specs.Among.{Among, among_step, among_past, topped, over_all}
 use Rattle.moves.specs.Moves.{tails}
 

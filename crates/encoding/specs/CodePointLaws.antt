@@ -54,6 +54,14 @@ complete_written (in_ee_ef l h) (on two_one y (end z)) s = refl
 complete_written (in_f0 l h) (on f0_two y (on two_one z (end w))) s = refl
 complete_written (in_f1_f3 l h) (on three_two y (on two_one z (end w))) s = refl
 complete_written (in_f4 l h) (on f4_two y (on two_one z (end w))) s = refl
+complete_written (in_c2_df l h) (on x y o) s = elim x [ ]
+complete_written (in_e0 l h) (on e0_one y (on x z o)) s = elim x [ ]
+complete_written (in_e1_ec l h) (on two_one y (on x z o)) s = elim x [ ]
+complete_written (in_ed l h) (on ed_one y (on x z o)) s = elim x [ ]
+complete_written (in_ee_ef l h) (on two_one y (on x z o)) s = elim x [ ]
+complete_written (in_f0 l h) (on f0_two y (on two_one z (on x w o))) s = elim x [ ]
+complete_written (in_f1_f3 l h) (on three_two y (on two_one z (on x w o))) s = elim x [ ]
+complete_written (in_f4 l h) (on f4_two y (on two_one z (on x w o))) s = elim x [ ]
 
 -- the other way: the bytes of a code point are read whole
 tail_whole : (y : Tail) (s : List ℕ) → due_at one (y.byte ∷ s) ≡ whole 1

@@ -9,8 +9,8 @@ use native.Mathlib.Omega.{arith}
 use lib.Dec.{eqb}
 use lib.ListN.{length, get_or, drop}
 use Rattle.encoding.specs.Class.{class_of}
-use Rattle.json.specs.Grammar.{put_value}
-use Rattle.json.specs.Verdict.{max_depth}
+use Rattle.json_text.specs.Grammar.{put_value}
+use Rattle.json_text.specs.Verdict.{max_depth}
 use Rattle.query.specs.Steps.{Step}
 use Rattle.select.specs.Ways.{frame_if}
 use Rattle.select.specs.Visits.{items_visits}

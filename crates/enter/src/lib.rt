@@ -3,13 +3,13 @@
 
 ghost use Rattle.std.specs.Prelude.{◌≤◌, ◌<◌, length};
 ghost use Rattle.encoding.specs.ClassTable.{ClassTable};
-ghost use Rattle.json.specs.Verdict.{max_bytes, max_depth};
+ghost use Rattle.json_text.specs.Verdict.{max_bytes, max_depth};
 ghost use Rattle.leap.specs.Passing.{Kept};
 ghost use Rattle.pile.specs.Pile.{pile};
 ghost use Rattle.enter.specs.Passes.{PassesValue, PassesContainer};
 
 use encoding::{CLOSING, OPENING, class};
-use json::MAX_DEPTH;
+use json_text::MAX_DEPTH;
 use leap::{KEPT, leave};
 use marks::framed;
 use pairs::{begin, raise};

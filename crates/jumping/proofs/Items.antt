@@ -8,8 +8,8 @@ use native.Mathlib.Omega.{arith}
 use lib.Dec.{eqb}
 use lib.ListN.{length, get_or, set, drop}
 use lib.Seq.{slice}
-use Rattle.json.specs.Grammar.{put_key, put_value, put_more}
-use Rattle.json.specs.Verdict.{max_bytes}
+use Rattle.json_text.specs.Grammar.{put_key, put_value, put_more}
+use Rattle.json_text.specs.Verdict.{max_bytes}
 use Rattle.query_parser.specs.Holds.{Holds}
 use Rattle.query.specs.Steps.{Step}
 use Rattle.query_parser.specs.declared.compiled.Kinds.{Kinds}

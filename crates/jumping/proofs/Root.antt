@@ -9,8 +9,8 @@ use lib.ListN.{length, drop}
 use borrow.Author.Tests.{eq-eqb}
 use Rattle.bits.specs.Truth.{refuted}
 use Rattle.encoding.specs.Bytes.{put_blanks}
-use Rattle.json.specs.Grammar.{Tree, text, nesting, put_value}
-use Rattle.json.specs.Verdict.{max_depth}
+use Rattle.json_text.specs.Grammar.{Tree, text, nesting, put_value}
+use Rattle.json_text.specs.Verdict.{max_depth}
 use Rattle.query_parser.specs.Holds.{Holds}
 use Rattle.query.specs.Steps.{Step}
 use Rattle.query_parser.specs.declared.compiled.Kinds.{Kinds}

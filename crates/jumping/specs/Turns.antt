@@ -1,7 +1,7 @@
 -- What the steps of the jumping walk promise: each goes on, stays within the pile, and keeps what all that is ahead comes to.
 use Rattle.std.specs.Prelude.{◌≡◌, List, Bool, true, false, ℕ, ◌+◌, ◌-◌, ◌*◌, ◌≤◌, ◌<◌, length}
-use Rattle.json.specs.Grammar.{Tree, text, nesting}
-use Rattle.json.specs.Verdict.{max_depth}
+use Rattle.json_text.specs.Grammar.{Tree, text, nesting}
+use Rattle.json_text.specs.Verdict.{max_depth}
 use Rattle.query_parser.specs.Holds.{Holds}
 use Rattle.query.specs.Steps.{Step}
 use Rattle.query_parser.specs.declared.compiled.Kinds.{Kinds}

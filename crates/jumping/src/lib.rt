@@ -3,7 +3,7 @@
 
 ghost use Rattle.std.specs.Prelude.{◌≡◌, true, false, ◌≤◌, length};
 ghost use Rattle.encoding.specs.ClassTable.{ClassTable};
-ghost use Rattle.json.specs.Verdict.{max_bytes, max_depth};
+ghost use Rattle.json_text.specs.Verdict.{max_bytes, max_depth};
 ghost use Rattle.leap.specs.Passing.{Kept};
 ghost use Rattle.query_parser.specs.Holds.{Fits};
 ghost use Rattle.walk.specs.Walks.{Walks};
@@ -12,7 +12,7 @@ ghost use Rattle.jumping.specs.Turns.{RootMarks, BeforeRoot, Comes, GoesOn, Turn
 
 use encoding::classes;
 use enter::value;
-use json::MAX_DEPTH;
+use json_text::MAX_DEPTH;
 use leap::{KEPT, none_kept};
 use marks::{advance, taking_element, taking_escaped, taking_member};
 use names::Names;

@@ -24,7 +24,7 @@ use Rattle.blocks.specs.declared.Words.{Words}
 use Rattle.brackets.specs.Closing.{NotBoth, FindsClosing}
 use Rattle.brackets.specs.Depth.{depth_at}
 use Rattle.brackets.specs.DepthLaws.{depth_none_at, depth_falls, depth_same}
-use Rattle.json.specs.Grammar.{put_items}
+use Rattle.json_text.specs.Grammar.{put_items}
 use Rattle.leap.specs.Brackets.{depth_in, Closed, Leaves}
 use Rattle.leap.specs.BracketLaws.{depth_drop, closed_at, closed_once}
 use Rattle.leap.specs.ContainerEnds.{items_closed}

@@ -2,7 +2,7 @@
 use Rattle.std.specs.Prelude.{◌≡◌, Bool, List, [], ℕ, ◌+◌, ◌<◌, ◌≤◌, length, drop}
 use Rattle.blocks.specs.Words.{opens_at, closes_at}
 use Rattle.brackets.specs.Depth.{depth_at}
-use Rattle.json.specs.Grammar.{Kind, Items, put_items}
+use Rattle.json_text.specs.Grammar.{Kind, Items, put_items}
 
 -- how many brackets of s outside strings are open before place i, where n are before place 0, with the two facts at its first byte
 unfoldable pub depth_in : (inside odd : Bool) → List ℕ → (n i : ℕ) → ℕ

@@ -7,9 +7,9 @@ use Rattle.classifier.specs.Classes.{byte_at}
 use Rattle.blocks.specs.Laws.{Carried, carried_string}
 use Rattle.brackets.specs.DepthLaws.{depth_none_at, depth_quiet_to, depth_more, depth_less}
 use Rattle.encoding.specs.Bytes.{Blanks, put_blanks}
-use Rattle.json.specs.Grammar as G
-use Rattle.json.specs.Grammar.{Kind, Key, Value, Items, More, put_key, put_value, put_items, put_more}
-use Rattle.json.specs.Append.{length_items}
+use Rattle.json_text.specs.Grammar as G
+use Rattle.json_text.specs.Grammar.{Kind, Key, Value, Items, More, put_key, put_value, put_items, put_more}
+use Rattle.json_text.specs.Append.{length_items}
 use Rattle.select.specs.Nodes.{size, key_size}
 use Rattle.scan.specs.Places.{head_of, past_value}
 use Rattle.strings.specs.Strings.{Quotes}

@@ -3,7 +3,7 @@
 
 ghost use Rattle.std.specs.Prelude.{List, ℕ, ◌≤◌, length};
 ghost use Rattle.blocks.specs.Counts.{SortedCounted};
-ghost use Rattle.json.specs.Verdict.{max_bytes};
+ghost use Rattle.json_text.specs.Verdict.{max_bytes};
 ghost use Rattle.leap.specs.Brackets.{Leaves};
 ghost use Rattle.leap.specs.Passing.{AfterClosing, Kept, Near};
 

@@ -5,7 +5,7 @@ use mathlib.Core.List.{List, []}
 use Prim.Native.Nat.{ℕ, zero, suc, ◌-◌}
 use native.Mathlib.Nat.{pos_of_ne-zero}
 use native.Mathlib.Omega.{arith}
-use Rattle.json.specs.Verdict.{record_verdict}
+use Rattle.json_text.specs.Verdict.{record_verdict}
 use Rattle.query_parser.specs.Holds.{Holds}
 use Rattle.query.specs.Verdict.{query_verdict, steps_in}
 use Rattle.query_parser.specs.Answer.{QueryRead}

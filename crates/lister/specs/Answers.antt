@@ -1,6 +1,6 @@
 -- How a lister's answer comes about: what is refused before the walk, and document 01's numbers for what a walk has counted.
 use Rattle.std.specs.Prelude.{◌≡◌, List, ℕ, zero, suc, ◌≤◌}
-use Rattle.json.specs.Verdict.{max_bytes, record_verdict}
+use Rattle.json_text.specs.Verdict.{max_bytes, record_verdict}
 use Rattle.query_parser.specs.Holds.{Holds}
 use Rattle.query.specs.Verdict.{query_verdict, steps_in}
 use Rattle.answers.specs.Lister.{input_verdict, Lists}

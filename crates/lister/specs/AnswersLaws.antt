@@ -2,8 +2,8 @@
 use Rattle.std.specs.Prelude.{◌≡◌, refl, List, ℕ, zero, suc, ◌≤◌, length}
 use Rattle.std.proofs.Common.{ap, ◌∙◌, arith, length-take}
 use Rattle.std.proofs.Math.Nat.{min-le_right}
-use Rattle.json.specs.Grammar.{Tree}
-use Rattle.json.specs.Verdict.{max_bytes}
+use Rattle.json_text.specs.Grammar.{Tree}
+use Rattle.json_text.specs.Verdict.{max_bytes}
 use Rattle.query_parser.specs.Holds.{Fits}
 use Rattle.query.specs.Verdict.{steps_in}
 use Rattle.select.specs.Ways.{spans}

@@ -2,7 +2,7 @@
 #![tactic(auto)]
 
 ghost use Rattle.std.specs.Prelude.{◌≡◌, ◌≤◌};
-ghost use Rattle.json.specs.Verdict.{max_bytes};
+ghost use Rattle.json_text.specs.Verdict.{max_bytes};
 ghost use Rattle.lister.specs.Answers.{Admits, refusal, Countable, concluded};
 
 use names::Names;

@@ -7,7 +7,7 @@ ghost use Rattle.std.proofs.Math.Seq.{slice};
 ghost use Rattle.bits.specs.Bits.{bit};
 ghost use Rattle.encoding.specs.Points.{Utf8Of};
 ghost use Rattle.encoding.specs.Unescape.{unescaped, Spells};
-ghost use Rattle.json.specs.Verdict.{max_depth};
+ghost use Rattle.json_text.specs.Verdict.{max_depth};
 ghost use Rattle.query.specs.Verdict.{max_query_bytes, max_steps};
 ghost use Rattle.query_parser.specs.Holds.{name_start_of, name_end_of, Fits};
 ghost use Rattle.select.specs.Nodes.{Label, member, element};

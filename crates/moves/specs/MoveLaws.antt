@@ -11,10 +11,10 @@ use Rattle.encoding.specs.Utf8.{rows}
 use Rattle.encoding.specs.RowTable.{RowIs}
 use Rattle.encoding.specs.Utf8Steps as U
 use Rattle.encoding.specs.Utf8Steps.{row_at}
-use Rattle.json.specs.Room.{Room}
-use Rattle.json.specs.Machine.{in_string, Stack, top, at, rules}
-use Rattle.json.specs.MachineLaws.{landing, step_range}
-use Rattle.json.specs.Led.{led_here, led_go, led_on}
+use Rattle.json_text.specs.Room.{Room}
+use Rattle.json_text.specs.Machine.{in_string, Stack, top, at, rules}
+use Rattle.json_text.specs.MachineLaws.{landing, step_range}
+use Rattle.json_text.specs.Led.{led_here, led_go, led_on}
 use Rattle.moves.specs.Moves.{Stand, between, escape, point, inside, state_of, Goes, Move, move, or_if, joined, with_move, MoveAdded, Added}
 use Rattle.moves.specs.Moves.{plain_moves, escape_moves, after_second_of, RowAdded, point_moves}
 use Rattle.moves.specs.Moves.{Followed, went, Leads, Follows, Arrived, came, Characters, Reader, Passes}

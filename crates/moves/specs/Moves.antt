@@ -5,10 +5,10 @@ use Rattle.std.specs.Int.Bits.{bit_and, bit_or}
 use Rattle.encoding.specs.Utf8.{Row, rows}
 use Rattle.encoding.specs.Utf8Steps as U
 use Rattle.encoding.specs.Utf8Steps.{Due, row_at}
-use Rattle.json.specs.Room.{Room}
-use Rattle.json.specs.Machine.{Ctl, in_string, escaping, tail_due, Stack, at, step}
+use Rattle.json_text.specs.Room.{Room}
+use Rattle.json_text.specs.Machine.{Ctl, in_string, escaping, tail_due, Stack, at, step}
 use Rattle.encoding.specs.Utf8.{any_tail, after_e0, after_eD, after_f0, after_f4}
-use Rattle.json.specs.Led.{Led}
+use Rattle.json_text.specs.Led.{Led}
 
 -- what is due of a code point from 80 (hexadecimal) on, inside a string
 abbrev pub tails : Due → Bool → Ctl

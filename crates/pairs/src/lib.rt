@@ -3,7 +3,7 @@
 
 ghost use Rattle.std.specs.Prelude.{◌≡◌, ◌≤◌};
 ghost use Rattle.automaton.specs.Halves.{end_pair};
-ghost use Rattle.json.specs.Verdict.{max_bytes};
+ghost use Rattle.json_text.specs.Verdict.{max_bytes};
 ghost use Rattle.pairs.specs.Pairs.{Writes, Begins, Raises};
 
 // What a walk counts: the pairs used, the most frames at once, and one more than the first byte of the first node left over, or 0.

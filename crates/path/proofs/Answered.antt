@@ -11,8 +11,8 @@ use native.Mathlib.Omega.{arith}
 use borrow.Author.Tests.{le-leb, lt-leb}
 use lib.ListN.{length}
 use Rattle.encoding.specs.Verdict.{Verdict, taken, refused}
-use Rattle.json.specs.Grammar.{Tree}
-use Rattle.json.specs.Verdict.{max_depth, record_verdict}
+use Rattle.json_text.specs.Grammar.{Tree}
+use Rattle.json_text.specs.Verdict.{max_depth, record_verdict}
 use Rattle.select.specs.Visits.{nodes}
 use Rattle.answers.specs.Finder.{end_among, end_at, end_in, offset_verdict, find_verdict, or_zero}
 use Rattle.answers.specs.Lister.{or_else}

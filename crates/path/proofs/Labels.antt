@@ -9,7 +9,7 @@ use native.Mathlib.Omega.{arith}
 use lib.ListN.{length, length-append}
 use lib.Seq.{slice}
 use Rattle.encoding.specs.Unescape.{unescaped}
-use Rattle.json.specs.Verdict.{max_bytes}
+use Rattle.json_text.specs.Verdict.{max_bytes}
 use Rattle.text.specs.Decimal.{decimal}
 use Rattle.text.specs.DecimalLaws.{decimal_word}
 use Rattle.text.specs.Put.{Room, Written}

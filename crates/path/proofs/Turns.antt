@@ -8,7 +8,7 @@ use Prim.Native.Nat.{ℕ, ◌+◌, ◌-◌, ◌*◌, ◌≤◌, ◌<◌}
 use native.Mathlib.Nat.{add-zero}
 use native.Mathlib.Omega.{arith}
 use lib.ListN.{length, get_or, length-append}
-use Rattle.json.specs.Verdict.{max_depth}
+use Rattle.json_text.specs.Verdict.{max_depth}
 use Rattle.text.specs.Put.{Room, Written}
 use Rattle.text.specs.PutLaws.{put_none, put-length, room_first, room_after, written_both}
 use Rattle.path.specs.Measured.{max_label, MeasuresLabel, labels_from, path_from, half_from, SlotsFrom, Measures}

@@ -7,9 +7,9 @@ use mathlib.Core.List.{List, [], ◌∷◌, ◌++◌, map, reverse, append-nil, 
 use Rattle.std.proofs.Math.Option.{Option, some, none}
 use Rattle.std.proofs.lemmas.Bool.{eqb-false}
 use Rattle.encoding.specs.Unescape.{unescaped}
-use Rattle.json.specs.Grammar.{Char, put_chars}
-use Rattle.json.specs.Points.{points_of}
-use Rattle.json.specs.Verdict.{max_depth}
+use Rattle.json_text.specs.Grammar.{Char, put_chars}
+use Rattle.json_text.specs.Points.{points_of}
+use Rattle.json_text.specs.Verdict.{max_depth}
 use Rattle.select.specs.Nodes.{Label}
 use Rattle.text.specs.Decimal.{decimal}
 use Rattle.paths.specs.Answer.{or_half, first_half, path_of}

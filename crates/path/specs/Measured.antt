@@ -1,7 +1,7 @@
 -- What is known of a path before it is written: of the label in one slot, and of all that stand in the slots from `low` on to the last one.
 use Rattle.std.specs.Prelude.{◌≡◌, List, ◌∷◌, Bool, true, false, ℕ, ◌+◌, ◌-◌, ◌*◌, ◌≤◌, length}
 use Rattle.std.proofs.Math.Option.{Option, some, none}
-use Rattle.json.specs.Verdict.{max_depth, max_bytes}
+use Rattle.json_text.specs.Verdict.{max_depth, max_bytes}
 use Rattle.path.specs.Slots.{slot_text, slot_half, slots_text, slots_half, SlotsWithin}
 
 -- no label has more bytes: in a name each byte is written as at most six, and a position has at most ten digits

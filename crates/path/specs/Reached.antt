@@ -2,7 +2,7 @@
 use Rattle.std.specs.Prelude.{◌≡◌, List, ℕ, ◌-◌, ◌≤◌, length}
 use Rattle.std.proofs.Math.Option.{some}
 use Rattle.encoding.specs.Verdict.{taken}
-use Rattle.json.specs.Verdict.{max_depth}
+use Rattle.json_text.specs.Verdict.{max_depth}
 use Rattle.answers.specs.Finder.{find_verdict}
 use Rattle.paths.specs.Answer.{trail_in}
 use Rattle.paths.specs.Trails.{Trail}

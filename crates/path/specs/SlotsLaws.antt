@@ -8,7 +8,7 @@ use Rattle.std.proofs.Math.Option.{some, none}
 use Prim.Native.Nat.{ℕ, zero, suc, ◌+◌, ◌-◌, ◌*◌, ◌≤◌}
 use Rattle.std.proofs.Math.Seq.{slice}
 use Rattle.encoding.specs.Unescape.{unescaped}
-use Rattle.json.specs.Verdict.{max_depth}
+use Rattle.json_text.specs.Verdict.{max_depth}
 use Rattle.text.specs.Decimal.{decimal}
 use Rattle.path_names.specs.Escaped.{put_escaped, half_escaped}
 use Rattle.path.specs.Slots.{slot_text, slot_half, SlotWithin, text_at, half_at, slots_text, or_slot, slots_half}

@@ -2,7 +2,7 @@
 #![tactic(auto)]
 
 ghost use Rattle.std.specs.Prelude.{◌≡◌, ◌-◌, ◌≤◌, length};
-ghost use Rattle.json.specs.Verdict.{max_bytes};
+ghost use Rattle.json_text.specs.Verdict.{max_bytes};
 ghost use Rattle.path.specs.Measured.{path_from, SlotsFrom, MeasuresLabel, Measures};
 ghost use Rattle.path.specs.Reached.{Reaches};
 ghost use Rattle.path.specs.Slots.{slot_text, SlotWithin};
@@ -10,7 +10,7 @@ ghost use Rattle.paths.specs.Answer.{WritesPath};
 ghost use Rattle.text.specs.Put.{Room, Written};
 
 use encoding::classes;
-use json::MAX_DEPTH;
+use json_text::MAX_DEPTH;
 use path_names::{NameSize, name_size, write_name};
 use text::{digit_count, write_byte, write_field, write_word};
 use trace::{Slots, trace_from};

@@ -13,10 +13,10 @@ use Rattle.encoding.specs.Unescape.{short_point_of, unit_at, low_at_of, pair_at,
 use Rattle.encoding.specs.UnescapeLaws.{unescaped-nil, unescaped_escape, unit_small, spelt_is}
 use Rattle.encoding.specs.UnescapeLaws.{Character, narrow_character, wide_character, wide_no_low}
 use Rattle.encoding.specs.Utf8.{Wide, put_wide}
-use Rattle.json.specs.Grammar as G
-use Rattle.json.specs.Grammar.{Escape, escape_byte, Char, put_char, put_chars}
-use Rattle.json.specs.Points.{points_of}
-use Rattle.json.specs.PointsLaws.{chars_spell}
+use Rattle.json_text.specs.Grammar as G
+use Rattle.json_text.specs.Grammar.{Escape, escape_byte, Char, put_char, put_chars}
+use Rattle.json_text.specs.Points.{points_of}
+use Rattle.json_text.specs.PointsLaws.{chars_spell}
 use Rattle.paths.specs.Answer.{is_half_of, has_half}
 use Rattle.paths.specs.Rendered.{rendered, put_name}
 use Rattle.paths.specs.WideTree.{wide_high}

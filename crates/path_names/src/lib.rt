@@ -6,7 +6,7 @@ ghost use Rattle.std.specs.Prelude.{◌≡◌, [], ◌*◌, ◌≤◌, ◌<◌, 
 ghost use Rattle.std.proofs.Math.Seq.{slice};
 ghost use Rattle.encoding.specs.Points.{utf8};
 ghost use Rattle.encoding.specs.Unescape.{unescaped};
-ghost use Rattle.json.specs.Verdict.{max_bytes};
+ghost use Rattle.json_text.specs.Verdict.{max_bytes};
 ghost use Rattle.paths.specs.Answer.{is_half_of};
 ghost use Rattle.paths.specs.Rendered.{hex_lower_of};
 ghost use Rattle.path_names.specs.Escaped.{put_escaped, half_escaped};

@@ -2,8 +2,8 @@
 use Rattle.std.specs.Prelude.{◌≡◌, List, [], ◌∷◌, ◌++◌, map, reverse, Bool, true, false, ◌&&◌, ◌||◌, ℕ, zero, suc, eqb, leb, length, drop}
 use Rattle.std.proofs.Math.Option.{Option, some, none}
 use Rattle.encoding.specs.Verdict.{Verdict, taken, refused}
-use Rattle.json.specs.Grammar.{Tree}
-use Rattle.json.specs.TreeOf.{tree_of}
+use Rattle.json_text.specs.Grammar.{Tree}
+use Rattle.json_text.specs.TreeOf.{tree_of}
 use Rattle.select.specs.Visits.{Visit}
 use Rattle.answers.specs.Lister.{or_else}
 use Rattle.answers.specs.Finder.{find_verdict}

@@ -4,8 +4,8 @@ use Rattle.std.proofs.Common.{sym, ap, subst, arith}
 use mathlib.Core.List.Memᴰ
 use mathlib.Core.List.{List, [], ◌∷◌, ◌++◌, Memᴰ}
 use Rattle.std.specs.Prelude.{ℕ, ◌+◌, ◌≤◌, length}
-use Rattle.json.specs.Append.{length-text, value_positive}
-use Rattle.json.specs.Grammar.{Kind, array, object, Key, Value, literal, number, string, container, Items, empty, items, More, end, more, Tree}
+use Rattle.json_text.specs.Append.{length-text, value_positive}
+use Rattle.json_text.specs.Grammar.{Kind, array, object, Key, Value, literal, number, string, container, Items, empty, items, More, end, more, Tree}
 use Rattle.query.specs.Grammar.{max_position}
 use Rattle.select.specs.Nodes.{Label, member, element, Node, Child, size, key_size, label_of, end_of, root, children}
 use Rattle.select.specs.Nodes.{value_children, items_children, more_children, IsChild, Below, same, down}

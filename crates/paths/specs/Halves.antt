@@ -2,7 +2,7 @@
 use mathlib.Core.List.{List, Memᴰ}
 use Rattle.std.specs.Prelude.{ℕ, ◌≤◌}
 use Rattle.encoding.specs.Points.{HasHalf}
-use Rattle.json.specs.Grammar.{Tree}
+use Rattle.json_text.specs.Grammar.{Tree}
 use Rattle.select.specs.Nodes.{Node, Below, root}
 use Rattle.paths.specs.Trails.{Link, named, Item, items_of}
 

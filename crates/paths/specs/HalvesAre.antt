@@ -10,8 +10,8 @@ use Rattle.std.proofs.Math.Option.{Option, some, none}
 use Rattle.bits.specs.Truth.{or_is}
 use Rattle.encoding.specs.Points.{HasHalf, here, there, Ranged}
 use Rattle.encoding.specs.Points as P
-use Rattle.json.specs.Grammar.{Kind, array, object, Key, Value, literal, number, string, container, Items, empty, items, More, end, more, Tree}
-use Rattle.json.specs.PointsLaws.{chars_spell}
+use Rattle.json_text.specs.Grammar.{Kind, array, object, Key, Value, literal, number, string, container, Items, empty, items, More, end, more, Tree}
+use Rattle.json_text.specs.PointsLaws.{chars_spell}
 use Rattle.select.specs.Nodes.{Label, member, Node, key_size, size, same, root}
 use Rattle.select.specs.Nodes as N
 use Rattle.select.specs.Order.{child_within}

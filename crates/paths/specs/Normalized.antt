@@ -3,7 +3,7 @@ use Rattle.std.specs.Prelude.{◌≡◌, List, [], ◌∷◌, ◌++◌, map, ℕ
 use Rattle.encoding.specs.Bytes.{In}
 use Rattle.encoding.specs.Points.{point_of}
 use Rattle.encoding.specs.Utf8.{Wide, put_wide}
-use Rattle.json.specs.Grammar.{Tree}
+use Rattle.json_text.specs.Grammar.{Tree}
 use Rattle.query.specs.Grammar.{Position, put_position, position_of}
 use Rattle.select.specs.Nodes.{Label, member, element, Node, Below, same, down, root}
 

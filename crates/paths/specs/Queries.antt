@@ -1,7 +1,7 @@
 -- What the path of a node is as a query, and which paths are equal (change request S-4).
 use Rattle.std.specs.Prelude.{◌≡◌, ◌↔◌, List, ℕ, ◌≤◌, length}
 use Rattle.encoding.specs.Verdict.{taken}
-use Rattle.json.specs.Grammar.{Tree}
+use Rattle.json_text.specs.Grammar.{Tree}
 use Rattle.query.specs.Grammar.{Query}
 use Rattle.query.specs.Verdict.{max_query_bytes, max_steps, query_verdict, steps_in}
 use Rattle.select.specs.Nodes.{Node}

@@ -2,7 +2,7 @@
 -- labels. Assumes nothing.
 use Rattle.std.specs.Prelude.{◌≡◌, refl, ◌↔◌, List, ℕ, ◌≤◌, length}
 use Rattle.std.proofs.Common.{sym, subst, arith}
-use Rattle.json.specs.Grammar.{Tree}
+use Rattle.json_text.specs.Grammar.{Tree}
 use Rattle.query.specs.Steps.{Step}
 use Rattle.query.specs.Verdict.{max_query_bytes, max_steps, steps_in}
 use Rattle.select.specs.Nodes.{Label, Node, root}

@@ -5,9 +5,9 @@ use mathlib.Core.List.Memᴰ
 use Rattle.std.proofs.Common.{arith, leb-true}
 use Rattle.encoding.specs.Ascii.{ascii}
 use Rattle.encoding.specs.PointsLaws.{small_scalar}
-use Rattle.json.specs.Grammar.{Key, Value, Tree, nesting}
-use Rattle.json.specs.Grammar as J
-use Rattle.json.specs.Verdict.{max_bytes, max_depth}
+use Rattle.json_text.specs.Grammar.{Key, Value, Tree, nesting}
+use Rattle.json_text.specs.Grammar as J
+use Rattle.json_text.specs.Verdict.{max_bytes, max_depth}
 use Rattle.query.specs.Verdict.{max_query_bytes, max_steps, steps_in}
 use Rattle.select.specs.Nodes.{Label, Node, children, IsChild, same, down, root}
 use Rattle.select.specs.Picked.{Picked}

@@ -1,6 +1,6 @@
 -- What the writer of a node's path answers, ground by ground, in the words of change request S-4.
 use Rattle.std.specs.Prelude.{List, ◌++◌, ℕ, ◌≤◌, ◌<◌, length, drop}
-use Rattle.json.specs.Grammar.{Tree}
+use Rattle.json_text.specs.Grammar.{Tree}
 use Rattle.select.specs.Nodes.{Node}
 use Rattle.answers.specs.Within.{RecordIs}
 use Rattle.answers.specs.FinderSays.{Begins, FinderSays}

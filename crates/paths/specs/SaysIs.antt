@@ -10,7 +10,7 @@ use Prim.Native.Nat.{ℕ, zero, suc, ◌≤◌, ◌<◌}
 use Rattle.std.proofs.lemmas.Bool.{eqb-false, lt-leb}
 use Rattle.std.proofs.Math.ListN.{length, drop}
 use Rattle.encoding.specs.Verdict.{Verdict, taken, refused}
-use Rattle.json.specs.Grammar.{Tree}
+use Rattle.json_text.specs.Grammar.{Tree}
 use Rattle.select.specs.Nodes.{Node, IsNode, root}
 use Rattle.select.specs.Visits.{Visit}
 use Rattle.select.specs.Order.{node_unique}

@@ -4,7 +4,7 @@
 use Rattle.std.specs.Prelude.{◌≡◌, refl, List, ℕ, ◌≤◌, ◌<◌, length, take, drop}
 use Rattle.std.proofs.Common.{arith, length-take}
 use Rattle.std.proofs.Math.Seq.{take-append_seam, drop-append_seam}
-use Rattle.json.specs.Grammar.{Tree}
+use Rattle.json_text.specs.Grammar.{Tree}
 use Rattle.query.specs.Verdict.{max_query_bytes, max_steps}
 use Rattle.select.specs.Nodes.{Node}
 use Rattle.answers.specs.FinderSays.{Begins}

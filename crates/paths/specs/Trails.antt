@@ -1,7 +1,7 @@
 -- The way to a node with the places of its names: what the path of the node, and ground 9, go by.
 use Rattle.std.specs.Prelude.{List, [], ◌∷◌, ◌++◌, ℕ, ◌+◌, length}
-use Rattle.json.specs.Grammar.{Kind, array, object, Key, Value, literal, number, string, container, Items, empty, items, More, end, more, Tree}
-use Rattle.json.specs.Points.{points_of}
+use Rattle.json_text.specs.Grammar.{Kind, array, object, Key, Value, literal, number, string, container, Items, empty, items, More, end, more, Tree}
+use Rattle.json_text.specs.Points.{points_of}
 use Rattle.select.specs.Nodes.{Label, member, element, Node, size, key_size, root}
 use Rattle.select.specs.Visits.{Visit, visit}
 

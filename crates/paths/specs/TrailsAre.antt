@@ -7,7 +7,7 @@ use mathlib.Core.List.{List, [], ◌∷◌, ◌++◌, map, map-append, append-ni
 use mathlib.Core.List.Memᴰ
 use mathlib.Core.List.{Memᴰ}
 use Rattle.std.proofs.Math.ListN.{length}
-use Rattle.json.specs.Grammar.{Kind, array, object, Key, Value, literal, number, string, container, Items, empty, items, More, end, more, Tree}
+use Rattle.json_text.specs.Grammar.{Kind, array, object, Key, Value, literal, number, string, container, Items, empty, items, More, end, more, Tree}
 use Rattle.select.specs.Nodes.{Label, Node, Child, child, size, key_size, end_of, root, children, value_children, items_children, more_children}
 use Rattle.select.specs.Nodes.{IsChild, Below, same}
 use Rattle.select.specs.Nodes as N

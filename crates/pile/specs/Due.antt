@@ -1,6 +1,6 @@
 -- What is ahead where the walk stands, and how a step goes on from there.
 use Rattle.std.specs.Prelude.{◌≡◌, ℕ, ◌+◌, ◌<◌, ◌≤◌, true, false, List, length, ◌==◌, ◌≢◌}
-use Rattle.json.specs.Verdict.{max_depth}
+use Rattle.json_text.specs.Verdict.{max_depth}
 use Rattle.query.specs.Steps.{Step}
 use Rattle.automaton.specs.Tally.{Tally}
 use Rattle.pairs.specs.Pairs.{tally}

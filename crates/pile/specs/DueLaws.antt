@@ -2,7 +2,7 @@
 use Rattle.std.specs.Prelude.{◌≡◌, ℕ, ◌+◌, ◌<◌, ◌≤◌, false, List, refl}
 use Rattle.std.proofs.lemmas.Bool.{false≢true}
 use Rattle.std.proofs.Common.{true≢false, arith}
-use Rattle.json.specs.Verdict.{max_depth}
+use Rattle.json_text.specs.Verdict.{max_depth}
 use Rattle.query.specs.Steps.{Step}
 use Rattle.automaton.specs.Tally.{Tally}
 use Rattle.automaton.specs.Halves.{finish}

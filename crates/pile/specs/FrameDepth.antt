@@ -1,6 +1,6 @@
 -- A frame's depth in 16 bits (change request S-3): what a frame holds of a depth, and what is read out of it.
 use Rattle.std.specs.Prelude.{◌≡◌, ℕ, ◌%◌, ◌^◌, ◌<◌, ◌≤◌, List, slice_index}
-use Rattle.json.specs.Verdict.{max_depth}
+use Rattle.json_text.specs.Verdict.{max_depth}
 
 -- the lowest 16 bits of a depth
 unfoldable pub narrowed : ℕ → ℕ

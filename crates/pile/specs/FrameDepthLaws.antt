@@ -2,7 +2,7 @@
 -- Assumes nothing.
 use Rattle.std.specs.Prelude.{◌≡◌, ℕ, ◌<◌, ◌≤◌, List, length, ◌≢◌, slice_set}
 use Rattle.std.proofs.Common.{ap, ◌∙◌, arith, get_or-set_same, get_or-set_other}
-use Rattle.json.specs.Verdict.{max_depth}
+use Rattle.json_text.specs.Verdict.{max_depth}
 use Rattle.pile.specs.FrameDepth.{narrowed, widened, ComesBack, depth_in}
 
 pub depths_come_back : ComesBack 16 narrowed widened

@@ -1,7 +1,7 @@
 -- The pile of open containers (document 01, "Marks, frames, the pile"): what is kept for each, and what is still ahead in all of them.
 use Rattle.std.specs.Prelude.{◌≡◌, ℕ, ◌+◌, ◌≤◌, Bool, List, length, ◌==◌, slice_index, slice_index_or, slice_set}
-use Rattle.json.specs.Grammar.{Kind}
-use Rattle.json.specs.Verdict.{max_depth}
+use Rattle.json_text.specs.Grammar.{Kind}
+use Rattle.json_text.specs.Verdict.{max_depth}
 use Rattle.query.specs.Steps.{Step}
 use Rattle.select.specs.Ways.{frame_if}
 use Rattle.scan.specs.Scans.{kind_if}

@@ -5,7 +5,7 @@ use Rattle.std.proofs.Math.Path.{refl}
 use Rattle.std.proofs.Common.{sym, ap, ◌∙◌, arith, length-set, get_or-set_same, get_or-set_other, eqb-true}
 use Rattle.std.proofs.lemmas.List.{length-replicate}
 use Rattle.query.specs.Steps.{Step}
-use Rattle.json.specs.Verdict.{max_depth}
+use Rattle.json_text.specs.Verdict.{max_depth}
 use Rattle.select.specs.Ways.{frame_if}
 use Rattle.automaton.specs.Tally.{Tally}
 use Rattle.pile.specs.FrameDepth.{narrowed, depth_in}

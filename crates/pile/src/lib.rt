@@ -2,12 +2,12 @@
 #![tactic(auto)]
 
 ghost use Rattle.std.specs.Prelude.{◌≡◌, ◌<◌, ◌≤◌, slice_set};
-ghost use Rattle.json.specs.Verdict.{max_bytes, max_depth};
+ghost use Rattle.json_text.specs.Verdict.{max_bytes, max_depth};
 ghost use Rattle.pile.specs.FrameDepth.{narrowed, widened};
 ghost use Rattle.pile.specs.Pile.{pile};
 ghost use Rattle.pile.specs.Moves.{Pops, CountsOn, Lost, PassedTo, EnteredAt, Skipped};
 
-use json::MAX_DEPTH;
+use json_text::MAX_DEPTH;
 use pairs::finish;
 
 // Where the walk stands: the place; whether an item is ahead there, or else a value has been passed; how many containers are open; the

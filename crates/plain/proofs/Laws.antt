@@ -10,8 +10,8 @@ use lib.ListN.{length, drop, get_or, length-drop}
 use lib.Seq.{slice}
 use Rattle.encoding.specs.Bytes.{put_blanks}
 use Rattle.encoding.specs.Class.{class_of}
-use Rattle.json.specs.Grammar.{Kind, put_key, put_value, put_more, text}
-use Rattle.json.specs.Verdict.{max_depth}
+use Rattle.json_text.specs.Grammar.{Kind, put_key, put_value, put_more, text}
+use Rattle.json_text.specs.Verdict.{max_depth}
 use Rattle.query_parser.specs.Holds.{Holds}
 use Rattle.query.specs.Steps.{Step}
 use Rattle.query_parser.specs.declared.compiled.Kinds.{Kinds}

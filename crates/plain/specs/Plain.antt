@@ -1,7 +1,7 @@
 -- What the parts of the plain walk promise: where they end, and the tally that they come to. Each says more only where a value or items stand there.
 use Rattle.std.specs.Prelude.{◌≡◌, List, Bool, true, ℕ, ◌+◌, ◌≤◌, length, drop}
 use Rattle.encoding.specs.Bytes.{Blanks, put_blanks}
-use Rattle.json.specs.Grammar.{Key, put_key}
+use Rattle.json_text.specs.Grammar.{Key, put_key}
 use Rattle.query_parser.specs.Holds.{Holds}
 use Rattle.query.specs.Steps.{Step}
 use Rattle.query_parser.specs.declared.compiled.Kinds.{Kinds}

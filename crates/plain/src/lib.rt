@@ -3,13 +3,13 @@
 
 ghost use Rattle.std.specs.Prelude.{◌+◌, ◌≤◌, ◌<◌, length};
 ghost use Rattle.encoding.specs.ClassTable.{ClassTable};
-ghost use Rattle.json.specs.Verdict.{max_bytes, max_depth};
+ghost use Rattle.json_text.specs.Verdict.{max_bytes, max_depth};
 ghost use Rattle.query_parser.specs.Holds.{Fits};
 ghost use Rattle.walk.specs.Walks.{Walks};
 ghost use Rattle.plain.specs.Plain.{state_of, tally_of, RootState, EntersChild, WalksValue, WalksItems};
 
 use encoding::{CLOSING, OPENING};
-use json::MAX_DEPTH;
+use json_text::MAX_DEPTH;
 use names::Names;
 use pairs::Counts;
 use query_parser::{Compiled, Kinds};

@@ -3,9 +3,9 @@ use Rattle.std.specs.Prelude.{◌≡◌, List, [], ◌∷◌, Bool, true, false,
 use Rattle.std.proofs.Math.Option.{Option, some, none}
 use Rattle.std.proofs.Common.{arith, leb→le}
 use Rattle.bits.specs.Truth.{and_left, and_right}
-use Rattle.json.specs.Room.{Room}
-use Rattle.json.specs.Machine.{Ctl, Stack, top, at, Rule, one, lowest, highest, rules, step}
-use Rattle.json.specs.MachineLaws.{Picks, inside, past, nowhere, step_by}
+use Rattle.json_text.specs.Room.{Room}
+use Rattle.json_text.specs.Machine.{Ctl, Stack, top, at, Rule, one, lowest, highest, rules, step}
+use Rattle.json_text.specs.MachineLaws.{Picks, inside, past, nowhere, step_by}
 
 -- whether b is among the bytes
 pub data Among : List ℕ → ℕ → Bool → Type 0 where

@@ -5,11 +5,11 @@ use Rattle.encoding.specs.Bytes.{Blank, space, tab, feed, return, blank_byte}
 use Rattle.swar.specs.Kinds.{blank}
 use Rattle.swar.specs.KindLaws.{is_blank, not_blank}
 use Rattle.swar.specs.Run.{Passed}
-use Rattle.json.specs.Grammar.{Kind}
-use Rattle.json.specs.Room.{Room}
-use Rattle.json.specs.Machine.{Ctl, item, colon, after, Stack, at, Rule, blank_rules, step}
-use Rattle.json.specs.MachineLaws.{Picks, past, item_blank, colon_blank, after_blank}
-use Rattle.json.specs.Led.{Led, led_skip}
+use Rattle.json_text.specs.Grammar.{Kind}
+use Rattle.json_text.specs.Room.{Room}
+use Rattle.json_text.specs.Machine.{Ctl, item, colon, after, Stack, at, Rule, blank_rules, step}
+use Rattle.json_text.specs.MachineLaws.{Picks, past, item_blank, colon_blank, after_blank}
+use Rattle.json_text.specs.Led.{Led, led_skip}
 use Rattle.scalars.specs.Among.{missed}
 
 -- the control states that pass blanks

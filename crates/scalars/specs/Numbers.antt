@@ -9,12 +9,12 @@ use Rattle.encoding.specs.BytesLaws as BytesLaws
 use Rattle.lanes.specs.Kinds.{digit}
 use Rattle.swar.specs.Run.{Passed, Run}
 use Rattle.swar.specs.Passing.{one_more}
-use Rattle.json.specs.Grammar.{Kind}
-use Rattle.json.specs.Room.{Room, endless}
-use Rattle.json.specs.Machine.{Ctl, after, after_minus, after_zero, in_int, after_point, in_frac, after_e, after_sign, in_exp, Stack, top, at, dead, Rule, one, span, after_rules, rules, step, final}
-use Rattle.json.specs.MachineLaws.{Picks, inside, past, nowhere, landing, step_range, step_by, step_over}
+use Rattle.json_text.specs.Grammar.{Kind}
+use Rattle.json_text.specs.Room.{Room, endless}
+use Rattle.json_text.specs.Machine.{Ctl, after, after_minus, after_zero, in_int, after_point, in_frac, after_e, after_sign, in_exp, Stack, top, at, dead, Rule, one, span, after_rules, rules, step, final}
+use Rattle.json_text.specs.MachineLaws.{Picks, inside, past, nowhere, landing, step_range, step_by, step_over}
 use Rattle.scalars.specs.Among.{Among, this, other, no_more, AmongAt, byte, nothing, missed, each, among_picks, among_past, among_within}
-use Rattle.json.specs.Led.{Led, led_here, led_go, led_die, led_end, led_over, led_same, led_skip, led_on}
+use Rattle.json_text.specs.Led.{Led, led_here, led_go, led_die, led_end, led_over, led_same, led_skip, led_on}
 
 -- a byte that is none
 pub data NoDigit (b : ℕ) : Type 0 where

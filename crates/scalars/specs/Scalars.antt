@@ -8,11 +8,11 @@ use Rattle.std.proofs.Math.Option.{none}
 use Rattle.std.proofs.Math.Dec.{leb}
 use borrow.Author.Tests.{leb-true, leb-false}
 use Rattle.swar.specs.Kinds.{blank}
-use Rattle.json.specs.Grammar.{array, object}
-use Rattle.json.specs.Room.{Room, endless}
-use Rattle.json.specs.Machine.{Ctl, value_due, after, in_string, word_due, after_minus, after_zero, in_int, Stack, at, one, opens, rules, step}
-use Rattle.json.specs.MachineLaws.{Picks, past, nowhere, landing, step_range, step_by}
-use Rattle.json.specs.Led.{Led, led_here, led_go, led_die, led_same, led_on}
+use Rattle.json_text.specs.Grammar.{array, object}
+use Rattle.json_text.specs.Room.{Room, endless}
+use Rattle.json_text.specs.Machine.{Ctl, value_due, after, in_string, word_due, after_minus, after_zero, in_int, Stack, at, one, opens, rules, step}
+use Rattle.json_text.specs.MachineLaws.{Picks, past, nowhere, landing, step_range, step_by}
+use Rattle.json_text.specs.Led.{Led, led_here, led_go, led_die, led_same, led_on}
 use Rattle.scalars.specs.Among.{missed}
 use Rattle.scalars.specs.Blanks.{past_blanks}
 use Rattle.scalars.specs.Numbers.{NoDigit, over, digit_or_not, no_nonzero, no_zero, Number}

@@ -2,10 +2,10 @@
 use Rattle.std.specs.Prelude.{◌≡◌, refl, List, [], ◌∷◌, Bool, true, false, ℕ, ◌+◌}
 use Rattle.std.proofs.lemmas.Bool.{false≢true}
 use Rattle.std.proofs.Math.Option.{none}
-use Rattle.json.specs.Room.{endless}
-use Rattle.json.specs.Machine.{Ctl, word_due, after, Stack, top, rules}
-use Rattle.json.specs.MachineLaws.{nowhere, step_by}
-use Rattle.json.specs.Led.{Led, led_go, led_die, led_end}
+use Rattle.json_text.specs.Room.{endless}
+use Rattle.json_text.specs.Machine.{Ctl, word_due, after, Stack, top, rules}
+use Rattle.json_text.specs.MachineLaws.{nowhere, step_by}
+use Rattle.json_text.specs.Led.{Led, led_go, led_die, led_end}
 use Rattle.scalars.specs.Among.{each, AmongAt, byte, nothing, among_past, among_step}
 
 -- what is due after a letter of a literal name, by the letters after it

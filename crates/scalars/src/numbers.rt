@@ -2,8 +2,8 @@
 ghost use Rattle.std.specs.Prelude.{◌≤◌, ◌<◌, true, [], ◌∷◌, length, get_or};
 ghost use Rattle.lanes.specs.Kinds.{digit};
 ghost use Rattle.swar.specs.Run.{Run};
-ghost use Rattle.json.specs.Machine.{value_due, after, after_minus, after_e, after_sign};
-ghost use Rattle.json.specs.Led.{Led};
+ghost use Rattle.json_text.specs.Machine.{value_due, after, after_minus, after_e, after_sign};
+ghost use Rattle.json_text.specs.Led.{Led};
 ghost use Rattle.scalars.specs.Among.{Among};
 ghost use Rattle.scalars.specs.Numbers.{DigitAt, Exponent, Fraction, Number, WholePart};
 ghost use Rattle.scalars.specs.Scalars.{Bare};

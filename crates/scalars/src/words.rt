@@ -1,7 +1,7 @@
 // Literal names (RFC 8259 section 3).
 ghost use Rattle.std.specs.Prelude.{◌≤◌, ◌<◌, [], ◌∷◌, length, get_or};
-ghost use Rattle.json.specs.Machine.{after, word_due};
-ghost use Rattle.json.specs.Led.{Led};
+ghost use Rattle.json_text.specs.Machine.{after, word_due};
+ghost use Rattle.json_text.specs.Led.{Led};
 ghost use Rattle.scalars.specs.Scalars.{Bare, Scalar};
 
 use crate::byte_at;

@@ -17,10 +17,10 @@ use Rattle.encoding.specs.Class.{class_of}
 use Rattle.encoding.specs.Bytes.{Blanks, put_blanks, put_in}
 use Rattle.encoding.specs.BytesLaws.{blanks_split, length_blanks}
 use Rattle.encoding.specs.Unescape as U
-use Rattle.json.specs.Append.{value_split, length_value, value_positive, append_chars, chars_split, length_chars}
-use Rattle.json.specs.Grammar as G
-use Rattle.json.specs.Grammar.{Literal, Minus, Int, Char, Name, Value}
-use Rattle.json.specs.Grammar.{put_literal, put_minus, put_int, put_frac, put_exp, put_chars, put_string, put_key, put_value}
+use Rattle.json_text.specs.Append.{value_split, length_value, value_positive, append_chars, chars_split, length_chars}
+use Rattle.json_text.specs.Grammar as G
+use Rattle.json_text.specs.Grammar.{Literal, Minus, Int, Char, Name, Value}
+use Rattle.json_text.specs.Grammar.{put_literal, put_minus, put_int, put_frac, put_exp, put_chars, put_string, put_key, put_value}
 use Rattle.encoding.specs.BytesLaws.{in_bounds}
 use Rattle.select.specs.Nodes.{size, key_size}
 use Rattle.lanes.specs.Kinds.{unquoted, gap}

@@ -9,8 +9,8 @@ use lib.ListN.{length, take, drop, get_or, length-append}
 use lib.Seq.{slice, drop-cons}
 use Rattle.blocks.specs.Words.{odd_before}
 use Rattle.encoding.specs.Unescape.{NoBackslash, none, more}
-use Rattle.json.specs.Append.{append_char}
-use Rattle.json.specs.Grammar.{Char, put_char, put_chars}
+use Rattle.json_text.specs.Append.{append_char}
+use Rattle.json_text.specs.Grammar.{Char, put_char, put_chars}
 use Rattle.lanes.specs.Kinds.{unquoted, bare}
 use Rattle.swar.specs.Passing.{at_start, ends_at}
 use Rattle.swar.specs.Run.{Passed, Run}

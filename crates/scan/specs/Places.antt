@@ -4,8 +4,8 @@ use Rattle.std.proofs.Common.{sym, ap, ◌∙◌, arith, length-drop, drop-cons,
 use Rattle.std.proofs.Math.Seq.{drop-append_seam, slice, take-nil}
 use Rattle.encoding.specs.Bytes.{Blanks, put_blanks}
 use Rattle.encoding.specs.BytesLaws.{blanks_split, length_blanks}
-use Rattle.json.specs.Append.{key_split, value_split}
-use Rattle.json.specs.Grammar.{Kind, Key, Value, put_key, put_value}
+use Rattle.json_text.specs.Append.{key_split, value_split}
+use Rattle.json_text.specs.Grammar.{Kind, Key, Value, put_key, put_value}
 use Rattle.select.specs.Nodes.{size, key_size}
 
 -- the byte b stands at place a, and u after it

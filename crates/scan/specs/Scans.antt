@@ -3,7 +3,7 @@ use Rattle.std.specs.Prelude.{◌≡◌, List, [], ◌∷◌, Bool, true, false,
 use Rattle.std.proofs.Math.Seq.{slice}
 use Rattle.encoding.specs.Bytes.{Blanks, put_blanks}
 use Rattle.encoding.specs.Unescape.{NoBackslash}
-use Rattle.json.specs.Grammar.{Char, Kind, array, object, Key, Value, literal, number, string, container, put_chars, put_key, put_value}
+use Rattle.json_text.specs.Grammar.{Char, Kind, array, object, Key, Value, literal, number, string, container, put_chars, put_key, put_value}
 use Rattle.select.specs.Nodes.{size, key_size}
 use Rattle.scan.specs.Shape.{ends_word_of, solid, stopped}
 

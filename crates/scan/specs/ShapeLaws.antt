@@ -12,9 +12,9 @@ use Rattle.encoding.specs.Hex as H
 use Rattle.encoding.specs.Hex.{Hex, hex_byte}
 use Rattle.encoding.specs.Utf8 as U
 use Rattle.encoding.specs.Utf8.{Wide, put_wide}
-use Rattle.json.specs.Grammar as G
-use Rattle.json.specs.Grammar.{Literal, Minus, Int, Frac, Exp, escape_byte, Char, Kind, Key, Value, More}
-use Rattle.json.specs.Grammar.{put_literal, put_minus, put_int, put_frac, put_exp, put_exp_sign, put_char, put_chars, put_string, put_key, put_value, put_more}
+use Rattle.json_text.specs.Grammar as G
+use Rattle.json_text.specs.Grammar.{Literal, Minus, Int, Frac, Exp, escape_byte, Char, Kind, Key, Value, More}
+use Rattle.json_text.specs.Grammar.{put_literal, put_minus, put_int, put_frac, put_exp, put_exp_sign, put_char, put_chars, put_string, put_key, put_value, put_more}
 use Rattle.lanes.specs.Kinds.{inner, gap, bare}
 use Rattle.scan.specs.Scans.{is_word_byte}
 use Rattle.scan.specs.Shape.{ends_word_of, solid, starts, stopped, wordy, Piece, plain, escaped, put_pieces}

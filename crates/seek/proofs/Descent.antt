@@ -8,8 +8,8 @@ use lib.Dec.{eqb}
 use lib.ListN.{length, drop, get_or}
 use Rattle.encoding.specs.Bytes.{put_blanks}
 use Rattle.encoding.specs.Class.{class_of}
-use Rattle.json.specs.Grammar.{Value, put_value, nesting, Tree, text}
-use Rattle.json.specs.Verdict.{max_depth}
+use Rattle.json_text.specs.Grammar.{Value, put_value, nesting, Tree, text}
+use Rattle.json_text.specs.Verdict.{max_depth}
 use Rattle.select.specs.Nodes.{size, root}
 use Rattle.select.specs.Visits.{Way, step, visits, node_visits, nodes}
 use Rattle.scan.specs.Places.{past_blanks}

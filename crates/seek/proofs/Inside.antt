@@ -10,8 +10,8 @@ use native.Mathlib.Omega.{arith}
 use lib.ListN.{length, drop}
 use Rattle.encoding.specs.Bytes.{Blanks, put_blanks}
 use Rattle.encoding.specs.BytesLaws.{length_blanks}
-use Rattle.json.specs.Grammar as G
-use Rattle.json.specs.Grammar.{Kind, Key, Value, Items, More, closing, put_key, put_value, put_items, put_more, nesting, items_nesting, more_nesting}
+use Rattle.json_text.specs.Grammar as G
+use Rattle.json_text.specs.Grammar.{Kind, Key, Value, Items, More, closing, put_key, put_value, put_items, put_more, nesting, items_nesting, more_nesting}
 use Rattle.select.specs.Nodes.{size, key_size, label_of}
 use Rattle.select.specs.Visits.{Visit, Way, step, visits, items_visits, more_visits}
 use Rattle.answers.specs.Finder.{end_among, or_zero}

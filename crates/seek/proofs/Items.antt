@@ -7,7 +7,7 @@ use native.Mathlib.Omega.{arith}
 use lib.ListN.{length, drop, get_or}
 use Rattle.encoding.specs.Bytes.{Blanks, put_blanks}
 use Rattle.encoding.specs.Class.{class_of}
-use Rattle.json.specs.Grammar.{Kind, closing}
+use Rattle.json_text.specs.Grammar.{Kind, closing}
 use Rattle.scan.specs.Places.{Head, head_of, past_blanks}
 use Rattle.scan.specs.Scans.{EndsBlanks}
 use Rattle.scan.specs.Shape.{solid, starts}

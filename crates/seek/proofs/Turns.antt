@@ -6,7 +6,7 @@ use mathlib.Core.Bool.{Bool, true, false}
 use Prim.Native.Nat.{ℕ, ◌+◌, ◌-◌, ◌≤◌, ◌<◌}
 use native.Mathlib.Omega.{arith}
 use lib.ListN.{length, drop}
-use Rattle.json.specs.Grammar.{Items, put_value, put_items, put_more, items_nesting}
+use Rattle.json_text.specs.Grammar.{Items, put_value, put_items, put_more, items_nesting}
 use Rattle.select.specs.Visits.{Way}
 use Rattle.paths.specs.Trails.{Trail}
 use Rattle.scan.specs.Scans.{kind_if, EntersItem}

@@ -7,9 +7,9 @@ use native.Mathlib.Omega.{arith}
 use lib.Dec.{eqb}
 use lib.ListN.{length, drop, get_or, length-drop}
 use Rattle.encoding.specs.Class.{class_of}
-use Rattle.json.specs.Append.{length_value, value_positive}
-use Rattle.json.specs.Grammar as G
-use Rattle.json.specs.Grammar.{Kind, Value, Items, opening, put_frac, put_exp, put_value, put_items}
+use Rattle.json_text.specs.Append.{length_value, value_positive}
+use Rattle.json_text.specs.Grammar as G
+use Rattle.json_text.specs.Grammar.{Kind, Value, Items, opening, put_frac, put_exp, put_value, put_items}
 use Rattle.select.specs.Nodes.{size}
 use Rattle.scan.specs.Places.{head_of}
 use Rattle.scan.specs.Scans.{kind_if, IsScalar, EndsScalar}

@@ -7,8 +7,8 @@ use mathlib.Core.List.{List, [], ◌∷◌, ◌++◌}
 use Rattle.std.proofs.Math.Bool.{Bool, true, false}
 use Rattle.std.proofs.Math.Option.{Option, some, none}
 use Prim.Native.Nat.{ℕ, suc, ◌+◌, ◌<◌}
-use Rattle.json.specs.Grammar as G
-use Rattle.json.specs.Grammar.{Kind, Value, Items}
+use Rattle.json_text.specs.Grammar as G
+use Rattle.json_text.specs.Grammar.{Kind, Value, Items}
 use Rattle.select.specs.Nodes.{size, end_of}
 use Rattle.select.specs.Visits.{Visit, Way, step, visit, visits, items_visits, node_visits}
 use Rattle.select.specs.Order.{Rises, firsts, visits_rise, first_before_end}

@@ -1,8 +1,8 @@
 -- What the descent to a value promises, part by part. Each says more only where a text of the grammar stands there, and is safe on all bytes.
 use Rattle.std.specs.Prelude.{◌≡◌, List, [], ◌∷◌, Bool, true, false, ℕ, ◌+◌, ◌≤◌, ◌<◌, length, drop}
 use Rattle.encoding.specs.Bytes.{Blanks, put_blanks}
-use Rattle.json.specs.Grammar.{Kind, Value, Items, closing, put_value, put_items, nesting, items_nesting, Tree, text}
-use Rattle.json.specs.Verdict.{max_depth}
+use Rattle.json_text.specs.Grammar.{Kind, Value, Items, closing, put_value, put_items, nesting, items_nesting, Tree, text}
+use Rattle.json_text.specs.Verdict.{max_depth}
 use Rattle.select.specs.Nodes.{size}
 use Rattle.select.specs.Visits.{Visit, Way, step, visits, items_visits, nodes}
 use Rattle.answers.specs.Finder.{end_among, or_zero}

@@ -6,8 +6,8 @@ use mathlib.Core.List.{List, [], ◌∷◌, ◌++◌, map-append}
 use Rattle.std.specs.Prelude.{Bool, ℕ, ◌+◌, eqb, length}
 use Rattle.std.proofs.Math.Bool.{true, false}
 use Rattle.std.proofs.Math.Option.{Option, some, none}
-use Rattle.json.specs.Grammar as G
-use Rattle.json.specs.Grammar.{Kind, Value, Items, More}
+use Rattle.json_text.specs.Grammar as G
+use Rattle.json_text.specs.Grammar.{Kind, Value, Items, More}
 use Rattle.select.specs.Nodes.{size, key_size, end_of, label_of}
 use Rattle.select.specs.Order.{firsts}
 use Rattle.select.specs.Visits.{Visit, visit, Way, step, visits, items_visits, more_visits}

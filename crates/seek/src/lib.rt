@@ -3,11 +3,11 @@
 
 ghost use Rattle.std.specs.Prelude.{◌≤◌, length};
 ghost use Rattle.encoding.specs.ClassTable.{ClassTable};
-ghost use Rattle.json.specs.Verdict.{max_bytes};
+ghost use Rattle.json_text.specs.Verdict.{max_bytes};
 ghost use Rattle.seek.specs.Seeks.{EndsValue, FirstItem, NextItem, SeeksValue, SeeksInside, FindsFrom};
 
 use encoding::{CLOSING, OPENING, class};
-use json::MAX_DEPTH;
+use json_text::MAX_DEPTH;
 use leap::{leave, none_kept};
 use scan::{enter_item, scalar_end, skip_blanks};
 

@@ -6,7 +6,7 @@ use Rattle.std.proofs.Common.{sym, subst}
 use mathlib.Core.List.Memᴰ
 use mathlib.Core.List.{List, ◌∷◌, ◌++◌, flat_map, Memᴰ}
 use Rattle.std.proofs.Math.ListN.{length}
-use Rattle.json.specs.Grammar.{Kind, Value, literal, number, string, container, Items, empty, items, More, end, more}
+use Rattle.json_text.specs.Grammar.{Kind, Value, literal, number, string, container, Items, empty, items, More, end, more}
 use Rattle.select.specs.Nodes.{Label, Node, Child, size, key_size, label_of, children, IsChild, value_children, items_children, more_children}
 use Rattle.select.specs.Visits.{Visit, visit, visits, items_visits, more_visits, node_visits}
 

@@ -7,7 +7,7 @@ use mathlib.Core.List.{List, [], ◌∷◌, Memᴰ}
 use Rattle.std.proofs.lemmas.Bool.{false≢true}
 use Rattle.std.proofs.Math.Bool.{and-false}
 use Rattle.std.proofs.Math.ListN.{get_elem?}
-use Rattle.json.specs.Grammar.{Kind, Items}
+use Rattle.json_text.specs.Grammar.{Kind, Items}
 use Rattle.query.specs.Steps.{Step}
 use Rattle.select.specs.Nodes.{Label, Node, items_children}
 use Rattle.select.specs.Visits.{Visit, Way, step, items_visits}

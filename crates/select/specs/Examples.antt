@@ -1,8 +1,8 @@
 -- Small records and queries, computed: each tells a definition from one that is nearly the same.
 use Rattle.std.specs.Prelude.{◌≡◌, refl, List, [], ◌∷◌, true, false, ℕ}
 use Rattle.encoding.specs.Hex.{digit}
-use Rattle.json.specs.Grammar.{Char, high, unicode, unsigned, whole, nofrac, noexp, array, object}
-use Rattle.json.specs.Grammar.{Key, Value, number, container, empty, items, end, more, Tree, text}
+use Rattle.json_text.specs.Grammar.{Char, high, unicode, unsigned, whole, nofrac, noexp, array, object}
+use Rattle.json_text.specs.Grammar.{Key, Value, number, container, empty, items, end, more, Tree, text}
 use Rattle.query.specs.Steps.{Step, name, every, position}
 use Rattle.select.specs.Marks.{Peak}
 use Rattle.select.specs.Ways.{Span, spans, peak}

@@ -10,7 +10,7 @@ use Rattle.std.proofs.Math.Bool.{and-eq-true_iff}
 use Rattle.std.proofs.Math.Option.{Option, some, none}
 use Rattle.std.proofs.Math.ListN.{get_elem?}
 use Rattle.bits.specs.Truth.{or_is, beq_is, same_truth}
-use Rattle.json.specs.Grammar.{Tree}
+use Rattle.json_text.specs.Grammar.{Tree}
 use Rattle.query.specs.Steps.{Step, is_deep}
 use Rattle.select.specs.Nodes.{Label, Node, IsChild, IsNode, root}
 use Rattle.select.specs.Picked.{Hits, PickedFrom, Picked}

@@ -6,9 +6,9 @@ use mathlib.Core.List.{List, [], Memᴰ}
 use Rattle.encoding.specs.Points.{HasHalf}
 use Rattle.encoding.specs.Unescape.{NoBackslash}
 use Rattle.encoding.specs.UnescapeLaws.{as_written}
-use Rattle.json.specs.Grammar as J
-use Rattle.json.specs.Points.{points_of}
-use Rattle.json.specs.PointsLaws.{chars_spell}
+use Rattle.json_text.specs.Grammar as J
+use Rattle.json_text.specs.Points.{points_of}
+use Rattle.json_text.specs.PointsLaws.{chars_spell}
 use Rattle.query.specs.Grammar as Q
 use Rattle.query.specs.Grammar.{Quote, First, Later, Query, put_first, put_laters, quoted_points, short_points, steps_of}
 use Rattle.query.specs.NamesLaws.{quoted_spells, short_spells, name_whole}

@@ -1,7 +1,7 @@
 -- RFC 9535's own account of a query: nodelists, segment by segment, with repetitions (§2.1.2 and §2.5).
 use mathlib.Core.List.{List, [], ◌∷◌, map, flat_map}
 use Rattle.std.specs.Prelude.{Bool, true, false}
-use Rattle.json.specs.Grammar.{Tree}
+use Rattle.json_text.specs.Grammar.{Tree}
 use Rattle.query.specs.Steps.{Selector, Step}
 use Rattle.select.specs.Nodes.{Node, root, Child, children}
 use Rattle.select.specs.Visits.{Visit, Way, step, node_visits}

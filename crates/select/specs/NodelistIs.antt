@@ -7,7 +7,7 @@ use mathlib.Core.List.Memᴰ
 use mathlib.Core.List.{List, [], ◌∷◌, reverse_aux, flat_map, Memᴰ}
 use Rattle.std.proofs.Math.Bool.{true, false}
 use Rattle.std.proofs.lemmas.Bool.{false≢true}
-use Rattle.json.specs.Grammar.{Tree}
+use Rattle.json_text.specs.Grammar.{Tree}
 use Rattle.query.specs.Steps.{Selector, Step}
 use Rattle.select.specs.Nodes.{Label, Node, Child, children, IsChild, Below, root}
 use Rattle.select.specs.Picked.{TakesChild, TakesAs, Takes, PickedBack, Picked}

@@ -1,9 +1,9 @@
 -- The nodes of a record (RFC 9535 §1.1): its values, where they stand, and how one is reached from another.
 use mathlib.Core.List.{List, [], ◌∷◌, Memᴰ}
 use Rattle.std.specs.Prelude.{ℕ, ◌+◌, length}
-use Rattle.json.specs.Grammar.{Kind, array, object, Key, put_key, Value, literal, number}
-use Rattle.json.specs.Grammar.{string, container, Items, empty, items, More, end, more, put_value, Tree}
-use Rattle.json.specs.Points.{points_of}
+use Rattle.json_text.specs.Grammar.{Kind, array, object, Key, put_key, Value, literal, number}
+use Rattle.json_text.specs.Grammar.{string, container, Items, empty, items, More, end, more, put_value, Tree}
+use Rattle.json_text.specs.Points.{points_of}
 
 -- how a node hangs below its parent: by a name, as the code points that it spells, or by its position in an array, from 0
 pub data Label : Type 0 where

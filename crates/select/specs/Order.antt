@@ -9,9 +9,9 @@ use Rattle.std.proofs.Math.Option.{some}
 use native.Mathlib.Omega.{arith}
 use Rattle.std.proofs.Math.ListN.{get_elem?}
 use Rattle.encoding.specs.BytesLaws.{length_blanks}
-use Rattle.json.specs.Grammar.{Kind, Value, literal, number, string, container, Items, empty}
-use Rattle.json.specs.Grammar.{items, More, end, more, put_value, put_items, put_more, Tree}
-use Rattle.json.specs.Append.{length-key, length_value, value_positive}
+use Rattle.json_text.specs.Grammar.{Kind, Value, literal, number, string, container, Items, empty}
+use Rattle.json_text.specs.Grammar.{items, More, end, more, put_value, put_items, put_more, Tree}
+use Rattle.json_text.specs.Append.{length-key, length_value, value_positive}
 use Rattle.select.specs.Nodes.{Label, Node, Child, size, key_size, end_of, root, children}
 use Rattle.select.specs.Nodes.{value_children, items_children, more_children, IsChild, Below, IsNode}
 use Rattle.select.specs.Nodes as N

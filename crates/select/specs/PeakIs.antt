@@ -10,7 +10,7 @@ use Rattle.std.proofs.Math.Bool.{true, false, false≢true}
 use Prim.Native.Nat.{ℕ, suc, ◌+◌, ◌≤◌, ◌<◌, max}
 use Rattle.std.proofs.Math.Numerals.{add-one}
 use native.Mathlib.Omega.{arith}
-use Rattle.json.specs.Grammar.{Value, literal, number, string, container, Tree}
+use Rattle.json_text.specs.Grammar.{Value, literal, number, string, container, Tree}
 use Rattle.query.specs.Steps.{Step}
 use Rattle.select.specs.Nodes.{Label, Node, Child, value_children, children, IsChild, IsContainer, holds, root}
 use Rattle.select.specs.Marks.{Frames, Peak}

@@ -4,8 +4,8 @@ use Rattle.std.specs.Prelude.{◌≡◌, ◌⊎◌, ℕ, ◌+◌, ◌-◌, ◌�
 use mathlib.Core.List.Memᴰ
 use mathlib.Core.List.{List, Memᴰ}
 use Rattle.std.proofs.Common.{inl, inr, arith}
-use Rattle.json.specs.Grammar.{Kind, Value, literal, number, string, container, Items, empty, items, More, end, more, Tree}
-use Rattle.json.specs.Grammar.{nesting, items_nesting, more_nesting}
+use Rattle.json_text.specs.Grammar.{Kind, Value, literal, number, string, container, Items, empty, items, More, end, more, Tree}
+use Rattle.json_text.specs.Grammar.{nesting, items_nesting, more_nesting}
 use Rattle.query.specs.Steps.{Step}
 use Rattle.select.specs.Nodes.{Label, Node, Child, child, size, key_size, label_of, more_children, items_children, value_children, children}
 use Rattle.select.specs.Nodes.{IsChild, IsContainer, holds, root}

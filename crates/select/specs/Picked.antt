@@ -1,7 +1,7 @@
 -- What a query picks out (document 01, "The part of RFC 9535").
 use Rattle.std.specs.Prelude.{◌≡◌, List, [], ◌∷◌, reverse, Bool, true, false}
 use Rattle.query.specs.Steps.{Selector, name, every, position, Step}
-use Rattle.json.specs.Grammar.{Tree}
+use Rattle.json_text.specs.Grammar.{Tree}
 use Rattle.select.specs.Nodes.{Label, member, element, Node, IsChild, Below, root}
 
 -- `*` takes every member of an object and every element of an array; a name takes members only, those whose name has the same code points

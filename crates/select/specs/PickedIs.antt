@@ -5,7 +5,7 @@ use Rattle.std.proofs.Common.{sym, subst, ◌∙◌, inl, inr}
 use mathlib.Core.List.{List, [], ◌∷◌, reverse}
 use Rattle.std.proofs.Math.Bool.{true, false, and-eq-true_iff}
 use Rattle.std.proofs.lemmas.Bool.{false≢true}
-use Rattle.json.specs.Grammar.{Tree}
+use Rattle.json_text.specs.Grammar.{Tree}
 use Rattle.bits.specs.Truth.{or_is}
 use Rattle.query.specs.Steps.{Selector, Step}
 use Rattle.select.specs.Nodes.{Node, Below, root}

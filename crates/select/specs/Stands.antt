@@ -6,9 +6,9 @@ use mathlib.Core.List.Memᴰ
 use mathlib.Core.List.{List, [], ◌∷◌, ◌++◌, append_assoc, Memᴰ}
 use Rattle.std.proofs.Math.ListN.{length}
 use Rattle.encoding.specs.BytesLaws.{blanks_split, length_blanks}
-use Rattle.json.specs.Grammar.{Kind, Value, literal, number, string, container, Items, empty, items}
-use Rattle.json.specs.Grammar.{More, end, more, opening, put_value, put_items, put_more, Tree, text}
-use Rattle.json.specs.Append.{key_split, value_split}
+use Rattle.json_text.specs.Grammar.{Kind, Value, literal, number, string, container, Items, empty, items}
+use Rattle.json_text.specs.Grammar.{More, end, more, opening, put_value, put_items, put_more, Tree, text}
+use Rattle.json_text.specs.Append.{key_split, value_split}
 use Rattle.select.specs.Nodes.{Label, Node, Child, size, key_size, end_of, root, children}
 use Rattle.select.specs.Nodes.{value_children, items_children, more_children, IsChild, Below, IsNode}
 use Rattle.select.specs.Nodes as N

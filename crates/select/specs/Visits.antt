@@ -1,6 +1,6 @@
 -- A walk through a value, over any states: every node in preorder, with the state that the labels on the way to it lead to.
 use Rattle.std.specs.Prelude.{List, [], ◌∷◌, ◌++◌, ℕ, ◌+◌, length}
-use Rattle.json.specs.Grammar.{Kind, Value, literal, number, string, container, Items, empty, items, More, end, more, Tree}
+use Rattle.json_text.specs.Grammar.{Kind, Value, literal, number, string, container, Items, empty, items, More, end, more, Tree}
 use Rattle.select.specs.Nodes.{Label, Node, size, key_size, label_of, root}
 
 -- a node, and the state at it

@@ -3,7 +3,7 @@ use Rattle.std.specs.Prelude.{List, [], ◌∷◌, reverse, Bool, true, false, �
 use Rattle.std.specs.Bool.{beq}
 use Rattle.std.proofs.Math.ListN.{get_elem?}
 use Rattle.encoding.specs.Bytes.{same_numbers}
-use Rattle.json.specs.Grammar.{Value, literal, number, string, container, Tree}
+use Rattle.json_text.specs.Grammar.{Value, literal, number, string, container, Tree}
 use Rattle.query.specs.Steps.{Selector, name, every, position, Step, is_deep}
 use Rattle.select.specs.Nodes.{Label, member, element, Node, end_of}
 use Rattle.select.specs.Visits.{Visit, Way, nodes}

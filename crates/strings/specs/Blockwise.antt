@@ -10,7 +10,7 @@ use Rattle.bits.specs.Bits.{bit}
 use Rattle.bits.specs.Laws.{lt_or_ge}
 use Rattle.blocks.specs.Words.{odd_before, odd_quotes, in_string, block_size, strings_word, inside_after, odd_after}
 use Rattle.blocks.specs.Laws.{size_full, size_short, inside_full, odd_full, strings_bit, strings_past, odd_drop, quotes_drop, string_drop}
-use Rattle.json.specs.Grammar.{Tree, text}
+use Rattle.json_text.specs.Grammar.{Tree, text}
 use Rattle.strings.specs.Strings.{strings, InOne}
 use Rattle.strings.specs.WordTwo.{word_two, strings_within}
 

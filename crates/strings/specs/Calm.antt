@@ -3,8 +3,8 @@ use Rattle.std.specs.Prelude.{◌≡◌, refl, Bool, true, ◌&&◌, List, [], �
 use Rattle.std.proofs.Common.{ap₂, arith, ne_eqb}
 use Rattle.encoding.specs.Bytes as B
 use Rattle.encoding.specs.Bytes.{put_in, Blanks, put_blanks}
-use Rattle.json.specs.Grammar as G
-use Rattle.json.specs.Grammar.{Digit, Literal, Minus, Int, Frac, Exp, put_literal, put_minus, put_int, put_frac, put_exp, put_exp_sign}
+use Rattle.json_text.specs.Grammar as G
+use Rattle.json_text.specs.Grammar.{Digit, Literal, Minus, Int, Frac, Exp, put_literal, put_minus, put_int, put_frac, put_exp, put_exp_sign}
 use Rattle.encoding.specs.BytesLaws.{in_bounds}
 use Rattle.strings.specs.Parts.{calm, all_calm}
 

@@ -4,8 +4,8 @@ use Rattle.std.proofs.Math.Bool.{xor}
 use Rattle.bits.specs.Bits.{number, digit}
 use Rattle.blocks.specs.Words.{odd_before, real_quote, odd_quotes, in_string, block_size, strings_word}
 use Rattle.classifier.specs.Classes.{byte_at, is_backslash}
-use Rattle.json.specs.Grammar as G
-use Rattle.json.specs.Grammar.{Tree, text}
+use Rattle.json_text.specs.Grammar as G
+use Rattle.json_text.specs.Grammar.{Tree, text}
 use Rattle.strings.specs.Strings.{strings}
 
 escaped_quote : Tree

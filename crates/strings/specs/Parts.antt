@@ -17,8 +17,8 @@ use Rattle.bits.specs.Truth.{neither}
 use Rattle.blocks.specs.Words.{odd_quotes, in_string, opens_at, closes_at}
 use Rattle.classifier.specs.Classes.{byte_at}
 use Rattle.blocks.specs.Laws.{Carried, carry_plain, carry_backslash, carry_escaped, carry_quote, carried_string}
-use Rattle.json.specs.Grammar.{Char, put_chars, put_string}
-use Rattle.json.specs.Append.{chars_split, length_chars}
+use Rattle.json_text.specs.Grammar.{Char, put_chars, put_string}
+use Rattle.json_text.specs.Append.{chars_split, length_chars}
 use Rattle.scan.specs.Places.{Head, head_of, past}
 use Rattle.scan.specs.Shape.{Piece, plain, escaped, put_pieces}
 use Rattle.scan.specs.ShapeLaws.{pieces, chars_are}

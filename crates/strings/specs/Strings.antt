@@ -1,8 +1,8 @@
 -- The strings of a record: every member name and every string value, by the places of their quotes.
 use mathlib.Core.List.{List, [], ◌∷◌, ◌++◌, Memᴰ}
 use Rattle.std.specs.Prelude.{ℕ, ◌+◌, ◌<◌, ◌≤◌, length}
-use Rattle.json.specs.Grammar.{Char, put_chars, Kind, array, object, Key, Value, literal, number}
-use Rattle.json.specs.Grammar.{string, container, Items, empty, items, More, end, more, Tree}
+use Rattle.json_text.specs.Grammar.{Char, put_chars, Kind, array, object, Key, Value, literal, number}
+use Rattle.json_text.specs.Grammar.{string, container, Items, empty, items, More, end, more, Tree}
 use Rattle.select.specs.Nodes.{size, key_size}
 
 -- the places of the opening and the closing quote

@@ -4,8 +4,8 @@ use Rattle.std.specs.Prelude.{◌≡◌, Bool, false, List, [], ◌∷◌, ◌++
 use Rattle.std.proofs.Common.{arith}
 use Rattle.blocks.specs.Laws.{Carried}
 use Rattle.encoding.specs.Bytes.{Blanks, put_blanks}
-use Rattle.json.specs.Grammar as G
-use Rattle.json.specs.Grammar.{Kind, Key, Value, Items, More, put_key, put_value, put_items, put_more}
+use Rattle.json_text.specs.Grammar as G
+use Rattle.json_text.specs.Grammar.{Kind, Key, Value, Items, More, put_key, put_value, put_items, put_more}
 use Rattle.select.specs.Nodes.{size, key_size}
 use Rattle.scan.specs.Places.{head_of, past_value}
 use Rattle.strings.specs.Strings.{key_strings, value_strings, items_strings, more_strings}

@@ -8,11 +8,11 @@ use Rattle.std.proofs.Math.ListN.{length}
 use Rattle.classifier.specs.Classes.{byte_at}
 use Rattle.blocks.specs.Laws.{Carried, carry_plain}
 use Rattle.encoding.specs.Bytes.{Blanks, put_blanks}
-use Rattle.json.specs.Grammar as G
-use Rattle.json.specs.Grammar.{Kind, Key, Literal, Minus, Int, Frac, Exp, put_literal, put_string}
-use Rattle.json.specs.Grammar.{put_key, put_value, put_items, put_more, Char, Value, Items, More}
+use Rattle.json_text.specs.Grammar as G
+use Rattle.json_text.specs.Grammar.{Kind, Key, Literal, Minus, Int, Frac, Exp, put_literal, put_string}
+use Rattle.json_text.specs.Grammar.{put_key, put_value, put_items, put_more, Char, Value, Items, More}
 use Rattle.encoding.specs.BytesLaws.{blanks_split, length_blanks}
-use Rattle.json.specs.Append.{string_split, value_split, length-key, length_value, length_string}
+use Rattle.json_text.specs.Append.{string_split, value_split, length-key, length_value, length_string}
 use Rattle.select.specs.Nodes.{size, key_size}
 use Rattle.scan.specs.Places.{head_of, past}
 use Rattle.strings.specs.Strings.{Quotes, quotes_of, key_strings}

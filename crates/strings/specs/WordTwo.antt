@@ -8,8 +8,8 @@ use Rattle.bits.specs.Laws.{lt_or_ge}
 use Rattle.blocks.specs.Words.{odd_before, odd_quotes, in_string}
 use Rattle.blocks.specs.Laws.{Carried, odd_quotes_past}
 use Rattle.encoding.specs.Bytes.{put_blanks}
-use Rattle.json.specs.Grammar.{put_value, Tree, text}
-use Rattle.json.specs.Append.{length-text}
+use Rattle.json_text.specs.Grammar.{put_value, Tree, text}
+use Rattle.json_text.specs.Append.{length-text}
 use Rattle.select.specs.Nodes.{size}
 use Rattle.scan.specs.Places.{past_value}
 use Rattle.strings.specs.Strings.{value_strings, strings, InOne}

@@ -7,8 +7,8 @@ use native.Mathlib.Omega.{arith}
 use lib.ListN.{length, set, length-set}
 use lib.Seq.{get_or-set_same, get_or-set_other}
 use Rattle.encoding.specs.Points.{if_else}
-use Rattle.json.specs.Grammar.{Key}
-use Rattle.json.specs.Points.{points_of}
+use Rattle.json_text.specs.Grammar.{Key}
+use Rattle.json_text.specs.Points.{points_of}
 use Rattle.paths.specs.Trails.{named, link_of}
 use Rattle.scan.specs.Scans.{kind_if, NameAt, QuoteAt}
 use Rattle.trace.specs.Traces.{KeepsSlot}

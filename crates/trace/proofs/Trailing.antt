@@ -11,8 +11,8 @@ use lib.ListN.{length, get_or, length-append}
 use Rattle.encoding.specs.Bytes.{put_blanks}
 use Rattle.encoding.specs.Class.{class_of}
 use Rattle.encoding.specs.Points.{if_else}
-use Rattle.json.specs.Grammar.{Value, Items, put_value, put_more, nesting, Tree, text}
-use Rattle.json.specs.Verdict.{max_depth}
+use Rattle.json_text.specs.Grammar.{Value, Items, put_value, put_more, nesting, Tree, text}
+use Rattle.json_text.specs.Verdict.{max_depth}
 use Rattle.select.specs.Nodes.{root}
 use Rattle.paths.specs.Answer.{trail_among}
 use Rattle.paths.specs.Trails.{Link, Trail, link_of, trails, items_trails, trails_of}

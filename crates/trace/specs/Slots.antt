@@ -2,8 +2,8 @@
 -- record or, where the second is 0, a position. The last link stands in the lowest slot.
 use Rattle.std.specs.Prelude.{◌≡◌, List, [], ◌∷◌, ℕ, ◌+◌, ◌-◌, ◌*◌, ◌≤◌, length, get_or}
 use Rattle.std.proofs.Math.Seq.{slice}
-use Rattle.json.specs.Grammar.{Char, put_chars}
-use Rattle.json.specs.Points.{points_of}
+use Rattle.json_text.specs.Grammar.{Char, put_chars}
+use Rattle.json_text.specs.Points.{points_of}
 use Rattle.paths.specs.Trails.{Link, named, placed, Trail}
 
 -- the two numbers of a slot are a link: of a name of the record, whose opening quote stands just before its first byte, or of a position

@@ -1,8 +1,8 @@
 -- What the descent that keeps the links promises, part by part.
 use Rattle.std.specs.Prelude.{◌≡◌, List, ◌++◌, Bool, true, ℕ, ◌+◌, ◌-◌, ◌*◌, ◌≤◌, ◌<◌, length, drop, get_or}
 use Rattle.std.proofs.Math.Option.{Option, some}
-use Rattle.json.specs.Grammar.{Value, Items, put_value, put_items, nesting, items_nesting, Tree, text}
-use Rattle.json.specs.Verdict.{max_depth}
+use Rattle.json_text.specs.Grammar.{Value, Items, put_value, put_items, nesting, items_nesting, Tree, text}
+use Rattle.json_text.specs.Verdict.{max_depth}
 use Rattle.select.specs.Visits.{nodes}
 use Rattle.paths.specs.Answer.{trail_among}
 use Rattle.paths.specs.Trails.{Trail, trails, items_trails, trails_of}

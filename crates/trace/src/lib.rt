@@ -5,12 +5,12 @@
 ghost use Rattle.std.specs.Prelude.{◌≤◌, length};
 ghost use Rattle.encoding.specs.ClassTable.{ClassTable};
 ghost use Rattle.encoding.specs.Points.{if_else};
-ghost use Rattle.json.specs.Verdict.{max_bytes, max_depth};
+ghost use Rattle.json_text.specs.Verdict.{max_bytes, max_depth};
 ghost use Rattle.seek.specs.Seeks.{SeeksValue, SeeksInside};
 ghost use Rattle.trace.specs.Traces.{KeepsSlot, TracesValue, TracesInside, TracesFrom};
 
 use encoding::{OPENING, class};
-use json::MAX_DEPTH;
+use json_text::MAX_DEPTH;
 use scan::{Entered, enter_item, scalar_end, skip_blanks};
 use seek::{BRACE, first_item, next_item, value_end};
 

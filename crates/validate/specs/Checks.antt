@@ -7,12 +7,12 @@ use Rattle.std.proofs.lemmas.Bool.{lt-leb}
 use Rattle.encoding.specs.Verdict.{Verdict}
 use Rattle.swar.specs.Kinds.{blank}
 use Rattle.swar.specs.Run.{Run}
-use Rattle.json.specs.Grammar.{array, object}
-use Rattle.json.specs.Machine.{after, at, accept}
-use Rattle.json.specs.Check.{ended}
-use Rattle.json.specs.CheckLaws.{here, end_at}
-use Rattle.json.specs.Led.{outcome, led_here}
-use Rattle.json.specs.Verdict.{max_depth, max_bytes, text_verdict, record_verdict}
+use Rattle.json_text.specs.Grammar.{array, object}
+use Rattle.json_text.specs.Machine.{after, at, accept}
+use Rattle.json_text.specs.Check.{ended}
+use Rattle.json_text.specs.CheckLaws.{here, end_at}
+use Rattle.json_text.specs.Led.{outcome, led_here}
+use Rattle.json_text.specs.Verdict.{max_depth, max_bytes, text_verdict, record_verdict}
 use Rattle.scalars.specs.Blanks.{Loose, at_item, at_after, led_blanks}
 use Rattle.validate.specs.Nesting.{stack_of, room_at, stack_pop}
 use Rattle.validate.specs.Turns.{due_of, standing, turned, Ready, Turned}

@@ -1,10 +1,10 @@
 -- The containers around a place, as a row of numbers from the outermost on, and the room that is left (document 01, ground 6).
 use Rattle.std.specs.Prelude.{◌≡◌, refl, List, [], ◌∷◌, ℕ, zero, suc, ◌+◌, ◌-◌, ◌≤◌, ◌<◌, length, get_or, set}
 use Rattle.std.proofs.Common.{ap, ap₂, ◌∙◌, arith, add-one, get_or-set_same, get_or-set_other}
-use Rattle.json.specs.Grammar.{Kind, array, object}
-use Rattle.json.specs.Room.{Room, left}
-use Rattle.json.specs.Machine.{Stack, pop}
-use Rattle.json.specs.Verdict.{max_depth}
+use Rattle.json_text.specs.Grammar.{Kind, array, object}
+use Rattle.json_text.specs.Room.{Room, left}
+use Rattle.json_text.specs.Machine.{Stack, pop}
+use Rattle.json_text.specs.Verdict.{max_depth}
 
 -- 0 is an array, any other number an object
 abbrev pub kind_of : ℕ → Kind

@@ -6,11 +6,11 @@ use Rattle.std.proofs.Math.Bool.{true, false}
 use Rattle.encoding.specs.Bytes.{Blank, space, tab, feed, return, blank_byte}
 use Rattle.swar.specs.Kinds.{blank}
 use Rattle.swar.specs.KindLaws.{not_blank}
-use Rattle.json.specs.Grammar.{Kind, array, object, closing}
-use Rattle.json.specs.Room.{Room}
-use Rattle.json.specs.Machine.{Ctl, item, in_string, word_due, after_minus, after_zero, in_int, Stack, State, at, Rule, one, span, opens, closes, takes, apply, blank_rules, pick, step}
-use Rattle.json.specs.MachineLaws.{pick_later, apart_takes}
-use Rattle.json.specs.Led.{Led, led_here, led_over, led_same}
+use Rattle.json_text.specs.Grammar.{Kind, array, object, closing}
+use Rattle.json_text.specs.Room.{Room}
+use Rattle.json_text.specs.Machine.{Ctl, item, in_string, word_due, after_minus, after_zero, in_int, Stack, State, at, Rule, one, span, opens, closes, takes, apply, blank_rules, pick, step}
+use Rattle.json_text.specs.MachineLaws.{pick_later, apart_takes}
+use Rattle.json_text.specs.Led.{Led, led_here, led_over, led_same}
 use Rattle.scalars.specs.Among.{AmongAt, byte, nothing, other, no_more, missed}
 
 module _ (b : ℕ) (k : Stack) (ρ : Room) where

@@ -4,11 +4,11 @@ use Rattle.std.proofs.Common.{ap, arith}
 use Rattle.std.proofs.lemmas.Bool.{false≢true}
 use Rattle.std.proofs.Math.Option.{none}
 use Rattle.swar.specs.Kinds.{blank}
-use Rattle.json.specs.Grammar.{object}
-use Rattle.json.specs.Room.{Room, endless}
-use Rattle.json.specs.Machine.{item, colon, after, in_string, closed, value_due, Stack, at, one, step}
-use Rattle.json.specs.MachineLaws.{past, nowhere, step_by}
-use Rattle.json.specs.Led.{Led, led_here, led_go, led_die, led_end, led_on, led_dead}
+use Rattle.json_text.specs.Grammar.{object}
+use Rattle.json_text.specs.Room.{Room, endless}
+use Rattle.json_text.specs.Machine.{item, colon, after, in_string, closed, value_due, Stack, at, one, step}
+use Rattle.json_text.specs.MachineLaws.{past, nowhere, step_by}
+use Rattle.json_text.specs.Led.{Led, led_here, led_go, led_die, led_end, led_on, led_dead}
 use Rattle.scalars.specs.Among.{other, no_more, AmongAt, byte, nothing, missed, among_within, among_byte}
 use Rattle.scalars.specs.Blanks.{past_blanks}
 use Rattle.validate.specs.Turns.{due_of, standing, Ready, Turned, TurnTo, led_turn}

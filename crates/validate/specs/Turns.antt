@@ -12,13 +12,13 @@ use Rattle.std.proofs.Math.ListN.{length}
 use Rattle.encoding.specs.Verdict.{Verdict, refused}
 use Rattle.swar.specs.Kinds.{blank}
 use Rattle.swar.specs.Run.{Run}
-use Rattle.json.specs.Grammar.{object, opening, closing}
-use Rattle.json.specs.Room.{left, endless, wider}
-use Rattle.json.specs.Machine.{Ctl, item, after, value_due, Stack, pop, one, closes}
-use Rattle.json.specs.MachineLaws.{past, nowhere, step_by, item_close, after_comma, after_close}
-use Rattle.json.specs.CheckLaws.{here, go_at, die_at, deep_at, enter_at}
-use Rattle.json.specs.Led.{Led, outcome, led_here}
-use Rattle.json.specs.Verdict.{max_depth}
+use Rattle.json_text.specs.Grammar.{object, opening, closing}
+use Rattle.json_text.specs.Room.{left, endless, wider}
+use Rattle.json_text.specs.Machine.{Ctl, item, after, value_due, Stack, pop, one, closes}
+use Rattle.json_text.specs.MachineLaws.{past, nowhere, step_by, item_close, after_comma, after_close}
+use Rattle.json_text.specs.CheckLaws.{here, go_at, die_at, deep_at, enter_at}
+use Rattle.json_text.specs.Led.{Led, outcome, led_here}
+use Rattle.json_text.specs.Verdict.{max_depth}
 use Rattle.scalars.specs.Among.{AmongAt, among_within, among_byte, missed}
 use Rattle.scalars.specs.Blanks.{at_item, led_blanks, past_blanks}
 use Rattle.validate.specs.Nesting.{kind_of, stack_of, room_at, stack_push, stack_pop, stack_under}

@@ -1,10 +1,10 @@
 // The check of a record: grounds 4 to 6 of document 01 in one pass, exactly RFC 8259 in UTF-8.
 #![tactic(auto)]
 
-ghost use Rattle.json.specs.Verdict.{text_verdict, record_verdict};
+ghost use Rattle.json_text.specs.Verdict.{text_verdict, record_verdict};
 ghost use Rattle.validate.specs.Checks.{Answers};
 
-use json::{MAX_BYTES, MAX_DEPTH};
+use json_text::{MAX_BYTES, MAX_DEPTH};
 
 mod turns;
 

@@ -1,16 +1,16 @@
 // The turns of the check: what is due is read, and the containers around it are kept.
 ghost use Rattle.std.specs.Prelude.{◌≡◌, ◌≤◌, ◌<◌, length, get_or};
 ghost use Rattle.encoding.specs.RowTable.{RowTable};
-ghost use Rattle.json.specs.Grammar as grammar;
-ghost use Rattle.json.specs.Led.{Led};
-ghost use Rattle.json.specs.Machine.{colon, value_due};
+ghost use Rattle.json_text.specs.Grammar as grammar;
+ghost use Rattle.json_text.specs.Led.{Led};
+ghost use Rattle.json_text.specs.Machine.{colon, value_due};
 ghost use Rattle.moves.specs.Moves.{Leads};
 ghost use Rattle.validate.specs.Nesting.{kind_of};
 ghost use Rattle.validate.specs.Texts.{Texted};
 ghost use Rattle.validate.specs.Turns.{standing, ItemDue, Opens, Ready, Turned, TurnTo};
 
 use encoding::{Rows, Scan};
-use json::MAX_DEPTH;
+use json_text::MAX_DEPTH;
 
 // The kinds of containers.
 const ARRAY: u8 = 0;

@@ -1,7 +1,7 @@
 -- What is still ahead of a walk inside a container, and what the whole of it comes to: a tally and a place.
 use Rattle.std.specs.Prelude.{◌≡◌, List, [], ◌++◌, true, ℕ, ◌+◌, ◌≤◌, length, drop}
 use Rattle.encoding.specs.Bytes.{Blanks, put_blanks}
-use Rattle.json.specs.Grammar.{Kind, Key, Value, Items, More, put_key, put_value, put_items, put_more, nesting, items_nesting, more_nesting}
+use Rattle.json_text.specs.Grammar.{Kind, Key, Value, Items, More, put_key, put_value, put_items, put_more, nesting, items_nesting, more_nesting}
 use Rattle.select.specs.Nodes.{Label, size, key_size, label_of}
 use Rattle.select.specs.Visits.{visits, items_visits, more_visits}
 use Rattle.scan.specs.Shape.{stopped}

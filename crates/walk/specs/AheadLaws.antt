@@ -10,9 +10,9 @@ use Rattle.std.proofs.Math.ListN.{length, drop}
 use Rattle.encoding.specs.Bytes.{Blanks, put_blanks}
 use Rattle.encoding.specs.BytesLaws.{length_blanks}
 use Rattle.encoding.specs.Class.{class_of}
-use Rattle.json.specs.Append.{length_value, length-key}
-use Rattle.json.specs.Grammar as G
-use Rattle.json.specs.Grammar.{Kind, Key, Value, Items, More, closing, put_key, put_value, put_items, put_more, nesting, items_nesting, more_nesting}
+use Rattle.json_text.specs.Append.{length_value, length-key}
+use Rattle.json_text.specs.Grammar as G
+use Rattle.json_text.specs.Grammar.{Kind, Key, Value, Items, More, closing, put_key, put_value, put_items, put_more, nesting, items_nesting, more_nesting}
 use Rattle.select.specs.Nodes.{Label, size, key_size, label_of}
 use Rattle.select.specs.Visits.{Visit, visits, items_visits, more_visits}
 use Rattle.scan.specs.Places.{Head, head_of, past_blanks, past_key, past_value}

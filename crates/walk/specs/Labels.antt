@@ -6,9 +6,9 @@ use Rattle.std.proofs.Math.Seq.{slice}
 use Rattle.encoding.specs.Points.{Utf8Of}
 use Rattle.encoding.specs.Unescape.{NoBackslash, Spells}
 use Rattle.encoding.specs.UnescapeLaws.{spells_written}
-use Rattle.json.specs.Grammar.{Key}
-use Rattle.json.specs.Points.{points_of}
-use Rattle.json.specs.PointsLaws.{chars_spell}
+use Rattle.json_text.specs.Grammar.{Key}
+use Rattle.json_text.specs.Points.{points_of}
+use Rattle.json_text.specs.PointsLaws.{chars_spell}
 use Rattle.select.specs.Nodes.{Label, member, element, label_of}
 use Rattle.query_parser.specs.declared.compiled.Kinds.{Kinds}
 use Rattle.marks.specs.Advances.{Taken}

@@ -10,9 +10,9 @@ use Rattle.encoding.specs.Bytes.{In, put_in}
 use Rattle.encoding.specs.BytesLaws.{to_high}
 use Rattle.encoding.specs.Class.{class_of}
 use Rattle.encoding.specs.ClassLaws as C
-use Rattle.json.specs.Grammar as G
-use Rattle.json.specs.Grammar.{Literal, Minus, Int, Char, Kind, Value, Items, opening, nesting, items_nesting}
-use Rattle.json.specs.Grammar.{put_literal, put_minus, put_int, put_frac, put_exp, put_string, put_value, put_items}
+use Rattle.json_text.specs.Grammar as G
+use Rattle.json_text.specs.Grammar.{Literal, Minus, Int, Char, Kind, Value, Items, opening, nesting, items_nesting}
+use Rattle.json_text.specs.Grammar.{put_literal, put_minus, put_int, put_frac, put_exp, put_string, put_value, put_items}
 use Rattle.select.specs.Nodes.{Label, size, end_of}
 use Rattle.select.specs.Visits.{visit, visits, items_visits}
 use Rattle.select.specs.Ways.{container_frames}

@@ -1,7 +1,7 @@
 -- What both walks promise: the tally of all nodes of the record, each with the state of its way.
 use Rattle.std.specs.Prelude.{◌≡◌, List, ℕ, ◌≤◌}
-use Rattle.json.specs.Grammar.{Tree, text, nesting}
-use Rattle.json.specs.Verdict.{max_depth}
+use Rattle.json_text.specs.Grammar.{Tree, text, nesting}
+use Rattle.json_text.specs.Verdict.{max_depth}
 use Rattle.query_parser.specs.Holds.{Holds}
 use Rattle.query.specs.Steps.{Step}
 use Rattle.query_parser.specs.declared.compiled.Kinds.{Kinds}

@@ -3,4 +3,4 @@ use Rattle.blocks.proofs.Escape.{escaped_law}
 use Rattle.blocks.proofs.escaped.Goals as goal
 
 pub returns : goal.returns
-returns c = escaped_law c.args.backslashes c.args.odd _ c.wrapping_add_u64-sum.ensures
+returns c = escaped_law c.args.backslashes c.args.odd _ c.wrapping_add_u64-sum.ensures.value

@@ -19,7 +19,7 @@ returns-in_default c =
     let read = c.admit-input.ensures in
     let none = c.if-input-ne0.false in
     query_taken _ _ read none
-    (no_bound c.frames_of.result c.in_default.keys2
+    (no_bound c.frames_of.result c.in_default.is
     ∙ c.frames_of.ensures _ (deep_steps _ _ read none))
 
 pub returns : goal.returns

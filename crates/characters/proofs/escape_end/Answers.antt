@@ -1,7 +1,7 @@
 -- `characters::escape_end` meets its contract: at the end of the bytes, at a letter, at a `u` and at any other byte. Assumes nothing.
 use mathlib.Core.Path.{refl}
-use Rattle.json.specs.Machine.{escaping, in_string}
-use Rattle.json.specs.Led.{led_here, led_end}
+use Rattle.json_text.specs.Machine.{escaping, in_string}
+use Rattle.json_text.specs.Led.{led_here, led_end}
 use Rattle.characters.specs.Strings.{escape_letter, escape_wrong, escape_hex}
 use Rattle.characters.proofs.escape_end.Goals as goal
 

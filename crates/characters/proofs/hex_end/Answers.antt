@@ -1,7 +1,7 @@
 use mathlib.Core.Bool.{true}
 use borrow.Author.Tests.{not-true, not-false}
-use Rattle.json.specs.Machine.{hex_due}
-use Rattle.json.specs.Led.{led_here}
+use Rattle.json_text.specs.Machine.{hex_due}
+use Rattle.json_text.specs.Led.{led_here}
 use Rattle.characters.specs.Strings.{hex_end_lem, hex_wrong, hex_more, hex_some, hex_done}
 use Rattle.characters.proofs.hex_end.Goals as goal
 

@@ -1,8 +1,8 @@
 -- `characters::hex_end` meets its contract. The loop's invariant: the machine has come to where so many digits are due as are left. The
 -- measure is how many are left. Assumes nothing.
 use mathlib.Core.Bool.{Bool, true}
-use Rattle.json.specs.Machine.{hex_due}
-use Rattle.json.specs.Led.{Led}
+use Rattle.json_text.specs.Machine.{hex_due}
+use Rattle.json_text.specs.Led.{Led}
 use Rattle.characters.specs.Strings.{hex_left}
 use Rattle.characters.proofs.hex_end.Given as goal
 

@@ -3,8 +3,8 @@ use Prim.Native.Nat.{◌-◌}
 use native.Mathlib.Omega.{arith}
 use borrow.Author.Tests.{not-true, not-false}
 use Rattle.swar.specs.KindLaws.{not_plain}
-use Rattle.json.specs.Machine.{in_string}
-use Rattle.json.specs.Led.{led_here}
+use Rattle.json_text.specs.Machine.{in_string}
+use Rattle.json_text.specs.Led.{led_here}
 use Rattle.characters.specs.Strings.{led_plain, string_closed, string_open, string_on, string_wrong}
 use Rattle.characters.proofs.string_end.Goals as goal
 

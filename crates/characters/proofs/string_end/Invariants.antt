@@ -5,8 +5,8 @@ use mathlib.Core.Bool.{Bool, true, false}
 use Prim.Native.Nat.{◌<◌, ◌-◌}
 use lib.ListN.{length, get_or}
 use Rattle.lanes.specs.Kinds.{plain}
-use Rattle.json.specs.Machine.{in_string}
-use Rattle.json.specs.Led.{Led}
+use Rattle.json_text.specs.Machine.{in_string}
+use Rattle.json_text.specs.Led.{Led}
 use Rattle.characters.proofs.string_end.Given as goal
 
 abbrev pub invariant-loop-i : goal.invariant-loop-i

@@ -4,6 +4,6 @@ use mathlib.Core.Path.{◌∙◌}
 use Rattle.classifier.proofs.word.Goals as goal
 
 pub returns : goal.returns
-returns c =
-    record {
+returns c = record {
   flags = λ g packed i h. c.transpose.ensures i h ∙ gathered _ _ _ _ c.load8-even.ensures c.load8-odd.ensures g packed i h;
+}

@@ -1,7 +1,7 @@
 -- `path::measure` meets its contract: each turn measures one slot more, from the last one down, until one has half of a surrogate pair.
 -- Assumes nothing.
 use Prim.Native.Nat.{◌≤◌}
-use Rattle.json.specs.Verdict.{max_depth}
+use Rattle.json_text.specs.Verdict.{max_depth}
 use Rattle.path.proofs.Turns.{MeasuredTo}
 use Rattle.path.proofs.measure.Given as goal
 

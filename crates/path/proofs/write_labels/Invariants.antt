@@ -1,6 +1,6 @@
 -- `path::write_labels` meets its contract: behind the `$` each turn writes one slot more, from the last one down. Assumes nothing.
 use Prim.Native.Nat.{◌≤◌}
-use Rattle.json.specs.Verdict.{max_depth}
+use Rattle.json_text.specs.Verdict.{max_depth}
 use Rattle.text.specs.Put.{Written}
 use Rattle.path.specs.Measured.{labels_from}
 use Rattle.path.proofs.write_labels.Given as goal

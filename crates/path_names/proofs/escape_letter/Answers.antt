@@ -17,27 +17,27 @@ none_of a b c d e f g apostrophe = f
 none_of a b c d e f g backslash = g
 
 pub returns-in-8 : goal.returns-in-8
-returns-in-8 c = named backspace c.in-8.keys1
+returns-in-8 c = named backspace c.in-8.is
 
 pub returns-in-9 : goal.returns-in-9
-returns-in-9 c = named tabulator c.in-9.keys2
+returns-in-9 c = named tabulator c.in-9.is
 
 pub returns-in-10 : goal.returns-in-10
-returns-in-10 c = named line c.in-10.keys3
+returns-in-10 c = named line c.in-10.is
 
 pub returns-in-12 : goal.returns-in-12
-returns-in-12 c = named form c.in-12.keys4
+returns-in-12 c = named form c.in-12.is
 
 pub returns-in-13 : goal.returns-in-13
-returns-in-13 c = named carriage c.in-13.keys5
+returns-in-13 c = named carriage c.in-13.is
 
 pub returns-in-39 : goal.returns-in-39
-returns-in-39 c = named apostrophe c.in-39.keys6
+returns-in-39 c = named apostrophe c.in-39.is
 
 pub returns-in-92 : goal.returns-in-92
-returns-in-92 c = named backslash c.in-92.keys7
+returns-in-92 c = named backslash c.in-92.is
 
 pub returns-in_default : goal.returns-in_default
 returns-in_default c =
-    let n = c.in_default.rest in
+    let n = c.in_default.in_default-own.rest in
     nameless (none_of n.0.0.0.0.0.0.1 n.0.0.0.0.0.1 n.0.0.0.0.1 n.0.0.0.1 n.0.0.1 n.0.1 n.1)

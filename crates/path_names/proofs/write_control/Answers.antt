@@ -1,5 +1,5 @@
 -- The escape in three parts, one after another. Assumes nothing.
-use mathlib.Core.List.{◌∷◌}
+use mathlib.Core.List.{[], ◌∷◌}
 use Prim.Native.Nat.{◌+◌, ◌/◌}
 use Rattle.path_names.specs.PiecesLaws.{control_parts}
 use Rattle.text.specs.PutLaws.{first_fits, second_fits, third_fits, three_written}

@@ -7,4 +7,4 @@ counts-on : {counts : List ℕ} {d j : ℕ} → j ≡ (get_or counts d 0 + 1) % 
 counts-on {counts} {d} e = record { is = ap (set counts d) e }
 
 pub returns : goal.returns
-returns c = counts-on c.wrapping_add_u32.ensures
+returns c = counts-on c.wrapping_add_u32.ensures.value

@@ -10,10 +10,10 @@ pub returns-then-b-quote : goal.returns-then-b-quote
 returns-then-b-quote c = escaped_own c.if-at-query.false (omega arith)
 
 pub returns-in-98 : goal.returns-in-98
-returns-in-98 c = escaped_letter c.if-at-query.false c.in-98.keys1
+returns-in-98 c = escaped_letter c.if-at-query.false c.in-98.is
 
 pub returns-in-117 : goal.returns-in-117
 returns-in-117 c = escaped_unicode c.if-at-query.false (omega arith) c.behind_u.ensures
 
 pub returns-in_default : goal.returns-in_default
-returns-in_default c = escaped_none c.if-at-query.false c.in_default.rest.0.1 c.in_default.rest.1 c.if-b-quote.false
+returns-in_default c = escaped_none c.if-at-query.false c.in_default.in_default-own.rest.0.1 c.in_default.in_default-own.rest.1 c.if-b-quote.false

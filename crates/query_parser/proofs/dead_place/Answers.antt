@@ -14,7 +14,7 @@ pub read_rest-requires : goal.read_rest-requires
 read_rest-requires c = (omega (arith, c.if-query-eq0.false), c.rows-rows.ensures)
 
 pub returns-in_default : goal.returns-in_default
-returns-in_default c = whole_place _ c.if-query-eq0.false c.if-query-ne-ROOT.false c.read_rest.ensures c.in_default.keys2
+returns-in_default c = whole_place _ c.if-query-eq0.false c.if-query-ne-ROOT.false c.read_rest.ensures c.in_default.is
 
 pub returns : goal.returns
 returns c = dead_place_is _ c.if-query-eq0.false c.if-query-ne-ROOT.false c.read_rest.ensures c.dead-1.given.1

@@ -27,7 +27,7 @@ loop-at-init c = (
 
 pub returns-in_default : goal.returns-in_default
 returns-in_default c =
-    so_far_refused c.loop-at.invariant.0 c.read_step-read.ensures c.in_default.keys2 c.place_of.ensures
+    so_far_refused c.loop-at.invariant.0 c.read_step-read.ensures c.in_default.is c.place_of.ensures
     c.refuse-in_default.ensures
 
 pub too_many-requires : goal.too_many-requires

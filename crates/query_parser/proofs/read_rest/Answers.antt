@@ -10,7 +10,7 @@ loop-i-init c = record { within = c.requires.0; same = refl }
 pub returns-in_default : goal.returns-in_default
 returns-in_default c =
     rest_refused c.loop-i.invariant c.read_step-next.ensures
-    c.in_default.keys2 c.place_of.ensures
+    c.in_default.is c.place_of.ensures
 
 pub loop-i-smaller : goal.loop-i-smaller
 loop-i-smaller c = let t = step_taken c.read_step-next.ensures c.next-1.given.1 in omega (arith, t.on, t.within)

@@ -5,7 +5,7 @@ use Rattle.query_parser.proofs.DeadBytes.{overflow_steps}
 use Rattle.query_parser.proofs.too_many.Goals as goal
 
 pub returns-in_default : goal.returns-in_default
-returns-in_default c = overflow_steps c.read_rest.ensures c.in_default.keys2 c.refuse.ensures
+returns-in_default c = overflow_steps c.read_rest.ensures c.in_default.is c.refuse.ensures
 
 pub returns : goal.returns
 returns c =

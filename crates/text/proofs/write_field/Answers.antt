@@ -1,5 +1,5 @@
 -- The number is written, and then the byte. Assumes nothing.
-use mathlib.Core.List.{◌∷◌}
+use mathlib.Core.List.{[], ◌∷◌}
 use Rattle.text.specs.Decimal.{decimal}
 use Rattle.text.specs.PutLaws.{room_first, room_after, written_both}
 use Rattle.text.proofs.write_field.Goals as goal

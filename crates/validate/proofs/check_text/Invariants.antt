@@ -3,7 +3,7 @@
 use Prim.Native.Nat.{◌-◌}
 use lib.ListN.{length}
 use Rattle.encoding.specs.RowTable.{RowTable}
-use Rattle.json.specs.Verdict.{text_verdict}
+use Rattle.json_text.specs.Verdict.{text_verdict}
 use Rattle.moves.specs.Moves.{Leads}
 use Rattle.validate.specs.Checks.{Reached}
 use Rattle.validate.proofs.check_text.Given as goal

@@ -1,7 +1,8 @@
 -- `scalars::words::false_end` meets its contract: one letter, and then three. Assumes nothing.
+use mathlib.Core.List.{[]}
 use borrow.Author.Tests.{not-true, not-false}
-use Rattle.json.specs.Machine.{after, word_due}
-use Rattle.json.specs.Led.{led_here, led_on}
+use Rattle.json_text.specs.Machine.{after, word_due}
+use Rattle.json_text.specs.Led.{led_here, led_on}
 use Rattle.scalars.specs.Words.{letter_led, letter_dead}
 use Rattle.scalars.proofs.words.false_end.Goals as goal
 

@@ -1,7 +1,7 @@
 -- `scalars::words::letters_end` meets its contract, letter by letter. Assumes nothing.
 use borrow.Author.Tests.{not-true, not-false}
-use Rattle.json.specs.Machine.{after, word_due}
-use Rattle.json.specs.Led.{led_here}
+use Rattle.json_text.specs.Machine.{after, word_due}
+use Rattle.json_text.specs.Led.{led_here}
 use Rattle.scalars.specs.Words.{letter_led, letter_dead}
 use Rattle.scalars.proofs.words.letters_end.Goals as goal
 

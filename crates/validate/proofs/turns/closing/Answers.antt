@@ -1,6 +1,6 @@
 -- `validate::turns::closing` meets its contract, by the kind. Assumes nothing.
 use mathlib.Core.Path.{ap, sym}
-use Rattle.json.specs.Grammar.{closing}
+use Rattle.json_text.specs.Grammar.{closing}
 use Rattle.validate.specs.Nesting.{kind_of, object_kind}
 use Rattle.validate.proofs.turns.closing.Goals as goal
 

@@ -1,7 +1,7 @@
 -- `validate::turns::colon_end` meets its contract: the colon stands at once, or after the blanks, or is missing there. Assumes nothing.
 use borrow.Author.Tests.{not-true, not-false}
-use Rattle.json.specs.Machine.{colon}
-use Rattle.json.specs.Led.{led_here}
+use Rattle.json_text.specs.Machine.{colon}
+use Rattle.json_text.specs.Led.{led_here}
 use Rattle.scalars.specs.Blanks.{at_colon, led_blanks}
 use Rattle.validate.specs.Texts.{colon_there, colon_missing}
 use Rattle.validate.proofs.turns.colon_end.Goals as goal

@@ -2,8 +2,8 @@
 use mathlib.Core.Path.{ap, sym}
 use mathlib.Core.Bool.{false}
 use native.Mathlib.Omega.{arith}
-use Rattle.json.specs.Grammar.{Kind}
-use Rattle.json.specs.Machine.{item}
+use Rattle.json_text.specs.Grammar.{Kind}
+use Rattle.json_text.specs.Machine.{item}
 use Rattle.validate.specs.Nesting.{kind_of, object_kind}
 use Rattle.validate.proofs.turns.item_due.Goals as goal
 

@@ -14,14 +14,14 @@ use Rattle.encoding.specs.BytesLaws.{make, in_bounds}
 use Rattle.encoding.specs.Hex as H
 use Rattle.encoding.specs.Hex.{Hex, hex_byte}
 use Rattle.encoding.specs.Utf8 as U
-use Rattle.json.specs.Grammar as G
-use Rattle.json.specs.Grammar.{Digit, Minus, Int, Frac, ExpSign, E, Exp, Escape, escape_byte, Char, Kind, Name, Key, Value}
-use Rattle.json.specs.Grammar.{put_minus, put_int, put_frac, put_exp_sign, put_exp, put_char, put_chars, put_string, put_key}
-use Rattle.json.specs.Append.{length_char, char_positive}
-use Rattle.json.specs.Parse.{Got, Parser, got, fail, on, Case, range, only, choose, pick, parse_by, parse_in, parse_byte, many}
-use Rattle.json.specs.Parse.{blank_cases, blank_of, parse_blanks, digit_of, parse_digits, parse_some_digits, parse_minus, parse_int, parse_frac, parse_exp_sign}
-use Rattle.json.specs.Parse.{parse_power, parse_exp, parse_number, parse_hex, parse_unicode, parse_escape, char_cases, parse_chars, parse_rest}
-use Rattle.json.specs.Parse.{parse_colon, parse_key}
+use Rattle.json_text.specs.Grammar as G
+use Rattle.json_text.specs.Grammar.{Digit, Minus, Int, Frac, ExpSign, E, Exp, Escape, escape_byte, Char, Kind, Name, Key, Value}
+use Rattle.json_text.specs.Grammar.{put_minus, put_int, put_frac, put_exp_sign, put_exp, put_char, put_chars, put_string, put_key}
+use Rattle.json_text.specs.Append.{length_char, char_positive}
+use Rattle.json_text.specs.Parse.{Got, Parser, got, fail, on, Case, range, only, choose, pick, parse_by, parse_in, parse_byte, many}
+use Rattle.json_text.specs.Parse.{blank_cases, blank_of, parse_blanks, digit_of, parse_digits, parse_some_digits, parse_minus, parse_int, parse_frac, parse_exp_sign}
+use Rattle.json_text.specs.Parse.{parse_power, parse_exp, parse_number, parse_hex, parse_unicode, parse_escape, char_cases, parse_chars, parse_rest}
+use Rattle.json_text.specs.Parse.{parse_colon, parse_key}
 
 pub on_got : {A B : Type 0} {o : Got A} {a : A} {s : List ℕ} (f : A → Parser B) → o ≡ got a s → on o f ≡ f a s
 on_got f e = ap (λ (x : Got _). on x f) e

@@ -13,9 +13,9 @@ use Rattle.encoding.specs.Unescape.{short_point_of, unit_at, low_at_of, pair_at,
 use Rattle.encoding.specs.UnescapeLaws.{unescaped-nil, escape_alone, escape_pair, not_high, not_low, hex_number_lem, hex_range}
 use Rattle.encoding.specs.UnescapeLaws.{Character, narrow_character, short_character, wide_character, wide_no_low}
 use Rattle.encoding.specs.Utf8.{Wide}
-use Rattle.json.specs.Grammar as G
-use Rattle.json.specs.Grammar.{Escape, escape_byte, Char, put_char, put_chars}
-use Rattle.json.specs.Points.{escape_point, unit_of, units_of, join, points_of}
+use Rattle.json_text.specs.Grammar as G
+use Rattle.json_text.specs.Grammar.{Escape, escape_byte, Char, put_char, put_chars}
+use Rattle.json_text.specs.Points.{escape_point, unit_of, units_of, join, points_of}
 
 -- a character other than `\u`: it is a code point, is decoded to it, and begins no low half
 record Plain (put : List ℕ → List ℕ) (n : ℕ) : Type 0 where

@@ -3,11 +3,11 @@ use Rattle.std.specs.Prelude.{List, [], ◌∷◌, Bool, true, false, ℕ, suc, 
 use Rattle.std.proofs.Math.Option.{Option, some, none}
 use Prim.Native.Nat as N
 use Rattle.encoding.specs.Bytes.{same_numbers}
-use Rattle.json.specs.Grammar as G
-use Rattle.json.specs.Grammar.{Kind, Key, closing, Value, Items, More, Tree, text}
-use Rattle.json.specs.Parse.{Got, Parser, got, fail, on, only, choose, pick, parse_by, parse_in, parse_byte, parse_bytes, many, blank_of, parse_blanks}
-use Rattle.json.specs.Parse.{digit_of, parse_digits, parse_some_digits, parse_minus, parse_int, parse_frac, parse_exp_sign, parse_power, parse_exp, parse_number}
-use Rattle.json.specs.Parse.{parse_hex, parse_unicode, parse_escape, char_cases, parse_chars, parse_rest, parse_colon, parse_key}
+use Rattle.json_text.specs.Grammar as G
+use Rattle.json_text.specs.Grammar.{Kind, Key, closing, Value, Items, More, Tree, text}
+use Rattle.json_text.specs.Parse.{Got, Parser, got, fail, on, only, choose, pick, parse_by, parse_in, parse_byte, parse_bytes, many, blank_of, parse_blanks}
+use Rattle.json_text.specs.Parse.{digit_of, parse_digits, parse_some_digits, parse_minus, parse_int, parse_frac, parse_exp_sign, parse_power, parse_exp, parse_number}
+use Rattle.json_text.specs.Parse.{parse_hex, parse_unicode, parse_escape, char_cases, parse_chars, parse_rest, parse_colon, parse_key}
 
 -- parsers for values and for what follows an item
 pub record Parsers : Type 0 where

@@ -2,8 +2,8 @@
 use Rattle.std.specs.Prelude.{List, [], ◌∷◌, Bool, true, false, ◌&&◌, ℕ, zero, suc, leb}
 use Rattle.std.proofs.Math.Option.{Option, some, none}
 use Rattle.encoding.specs.Utf8.{Second, any_tail, after_e0, after_eD, after_f0, after_f4, second_low, second_high}
-use Rattle.json.specs.Grammar.{Kind, array, object, opening, closing}
-use Rattle.json.specs.Room.{Room, left, endless, wider}
+use Rattle.json_text.specs.Grammar.{Kind, array, object, opening, closing}
+use Rattle.json_text.specs.Room.{Room, left, endless, wider}
 
 -- what is due next
 pub data Ctl : Type 0 where

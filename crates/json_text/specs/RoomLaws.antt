@@ -2,8 +2,8 @@
 use Rattle.std.specs.Prelude.{List, ℕ, suc, max, ◌≤◌}
 use Rattle.std.proofs.Common.{arith}
 use Rattle.std.proofs.Math.Nat.{le-max_left, le-max_right, max-le}
-use Rattle.json.specs.Grammar.{Value, nesting, JsonText, Nested}
-use Rattle.json.specs.Room.{Room, left, endless, wider}
+use Rattle.json_text.specs.Grammar.{Value, nesting, JsonText, Nested}
+use Rattle.json_text.specs.Room.{Room, left, endless, wider}
 
 -- so many containers, one in the other, have room
 abbrev pub Fits : Room → ℕ → Type 0

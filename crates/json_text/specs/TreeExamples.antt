@@ -4,9 +4,9 @@ use Rattle.std.proofs.Math.Option.{some, none}
 use Rattle.encoding.specs.Bytes as B
 use Rattle.encoding.specs.Hex as H
 use Rattle.encoding.specs.Utf8 as U
-use Rattle.json.specs.Grammar as G
-use Rattle.json.specs.Grammar.{Char, Name, Value, Tree}
-use Rattle.json.specs.TreeOf.{tree_of}
+use Rattle.json_text.specs.Grammar as G
+use Rattle.json_text.specs.Grammar.{Char, Name, Value, Tree}
+use Rattle.json_text.specs.TreeOf.{tree_of}
 
 -- a value with no blanks around it
 abbrev alone : Value → Tree

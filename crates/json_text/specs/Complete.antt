@@ -10,20 +10,20 @@ use Rattle.encoding.specs.Hex.{Hex, hex_byte}
 use Rattle.encoding.specs.Utf8 as U
 use Rattle.encoding.specs.Utf8.{Wide, put_wide, Second, any_tail, after_e0, after_eD, after_f0, after_f4, second_low}
 use Rattle.encoding.specs.Utf8Laws.{second_some}
-use Rattle.json.specs.Grammar as G
-use Rattle.json.specs.Grammar.{Digit, Int, Frac, Exp, ExpSign, E, e_byte, Escape, escape_byte, Char, Minus}
-use Rattle.json.specs.Grammar.{Literal, Kind, array, object, opening, closing, Key, Value, Items, More, Tree}
-use Rattle.json.specs.Grammar.{put_literal, put_int, put_frac, put_exp, put_exp_sign, put_minus, put_char, put_chars, put_string}
-use Rattle.json.specs.Grammar.{put_key, put_value, put_items, put_more, text, nesting, items_nesting, more_nesting}
-use Rattle.json.specs.Room.{Room, left, endless, wider}
-use Rattle.json.specs.RoomLaws.{Fits, Within, Texts, fits_left, fits_right, fits_less}
-use Rattle.json.specs.Machine.{Ctl}
-use Rattle.json.specs.Machine.{item, colon, after, in_string, escaping, hex_due, tail_due, word_due, after_minus}
-use Rattle.json.specs.Machine.{after_zero, in_int, after_point, in_frac, after_e, after_sign, in_exp, value_due}
-use Rattle.json.specs.Machine.{Stack, top, State, dead, at, entered, Rule, one, span, lowest, highest, takes, after_rules}
-use Rattle.json.specs.Machine.{exponent_rules, hex_rules, closed, rules, pick, step, run, final, accept, start}
-use Rattle.json.specs.MachineLaws.{pick_later, takes_between, landing, lands, step_in, step_by, inside, item_blank}
-use Rattle.json.specs.MachineLaws.{item_open, item_close, colon_blank, after_blank, after_comma, after_close}
+use Rattle.json_text.specs.Grammar as G
+use Rattle.json_text.specs.Grammar.{Digit, Int, Frac, Exp, ExpSign, E, e_byte, Escape, escape_byte, Char, Minus}
+use Rattle.json_text.specs.Grammar.{Literal, Kind, array, object, opening, closing, Key, Value, Items, More, Tree}
+use Rattle.json_text.specs.Grammar.{put_literal, put_int, put_frac, put_exp, put_exp_sign, put_minus, put_char, put_chars, put_string}
+use Rattle.json_text.specs.Grammar.{put_key, put_value, put_items, put_more, text, nesting, items_nesting, more_nesting}
+use Rattle.json_text.specs.Room.{Room, left, endless, wider}
+use Rattle.json_text.specs.RoomLaws.{Fits, Within, Texts, fits_left, fits_right, fits_less}
+use Rattle.json_text.specs.Machine.{Ctl}
+use Rattle.json_text.specs.Machine.{item, colon, after, in_string, escaping, hex_due, tail_due, word_due, after_minus}
+use Rattle.json_text.specs.Machine.{after_zero, in_int, after_point, in_frac, after_e, after_sign, in_exp, value_due}
+use Rattle.json_text.specs.Machine.{Stack, top, State, dead, at, entered, Rule, one, span, lowest, highest, takes, after_rules}
+use Rattle.json_text.specs.Machine.{exponent_rules, hex_rules, closed, rules, pick, step, run, final, accept, start}
+use Rattle.json_text.specs.MachineLaws.{pick_later, takes_between, landing, lands, step_in, step_by, inside, item_blank}
+use Rattle.json_text.specs.MachineLaws.{item_open, item_close, colon_blank, after_blank, after_comma, after_close}
 
 -- s completes a text from the state
 abbrev pub Accepts : State → List ℕ → Type 0

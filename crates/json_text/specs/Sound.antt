@@ -13,17 +13,17 @@ use Rattle.encoding.specs.Hex.{Hex, hex_byte}
 use Rattle.encoding.specs.Utf8 as U
 use Rattle.encoding.specs.Utf8.{any_tail, after_e0, after_eD, after_f0, after_f4, second_low, second_high}
 use Rattle.encoding.specs.Utf8Laws.{Tails}
-use Rattle.json.specs.Grammar as G
-use Rattle.json.specs.Grammar.{Digit, Int, Frac, Exp, ExpSign, E, e_byte, Escape, escape_byte}
-use Rattle.json.specs.Grammar.{Char, Kind, array, object, opening, closing, Key, Value, More}
-use Rattle.json.specs.Grammar.{put_int, put_frac, put_exp, put_exp_sign, put_chars, put_key, put_value, put_more, text, nesting, more_nesting}
-use Rattle.json.specs.Room.{Room, left, endless, wider}
-use Rattle.json.specs.RoomLaws.{Fits, Within, Texts, fits_nothing, fits-max, fits_more}
-use Rattle.json.specs.Machine.{Ctl, item}
-use Rattle.json.specs.Machine.{colon, after, in_string, escaping, hex_due, tail_due, word_due, after_minus}
-use Rattle.json.specs.Machine.{after_zero, in_int, after_point, in_frac, after_e, after_sign, in_exp}
-use Rattle.json.specs.Machine.{Stack, top, pop, State, dead, at, entered, Rule, one, span, opens, closes, apply, close_rules}
-use Rattle.json.specs.Machine.{after_rules, hex_rules, closed, rules, takes, pick, step, run, final, is_empty, accept, start}
+use Rattle.json_text.specs.Grammar as G
+use Rattle.json_text.specs.Grammar.{Digit, Int, Frac, Exp, ExpSign, E, e_byte, Escape, escape_byte}
+use Rattle.json_text.specs.Grammar.{Char, Kind, array, object, opening, closing, Key, Value, More}
+use Rattle.json_text.specs.Grammar.{put_int, put_frac, put_exp, put_exp_sign, put_chars, put_key, put_value, put_more, text, nesting, more_nesting}
+use Rattle.json_text.specs.Room.{Room, left, endless, wider}
+use Rattle.json_text.specs.RoomLaws.{Fits, Within, Texts, fits_nothing, fits-max, fits_more}
+use Rattle.json_text.specs.Machine.{Ctl, item}
+use Rattle.json_text.specs.Machine.{colon, after, in_string, escaping, hex_due, tail_due, word_due, after_minus}
+use Rattle.json_text.specs.Machine.{after_zero, in_int, after_point, in_frac, after_e, after_sign, in_exp}
+use Rattle.json_text.specs.Machine.{Stack, top, pop, State, dead, at, entered, Rule, one, span, opens, closes, apply, close_rules}
+use Rattle.json_text.specs.Machine.{after_rules, hex_rules, closed, rules, takes, pick, step, run, final, is_empty, accept, start}
 
 -- after a value
 data After : Stack → Room → List ℕ → Type 0 where

@@ -6,14 +6,14 @@ use Rattle.encoding.specs.Prefix.{Alive, DeadPlace}
 use Rattle.encoding.specs.PrefixLaws.{alive_text, dead_place_at, dead_place_unique}
 use Rattle.encoding.specs.Verdict as verdict
 use Rattle.encoding.specs.Verdict.{Verdict, refused}
-use Rattle.json.specs.Grammar.{JsonText, Nested}
-use Rattle.json.specs.Room.{left, endless}
-use Rattle.json.specs.Machine.{value_due, State, dead, at, accept}
-use Rattle.json.specs.Sound.{sound}
-use Rattle.json.specs.Complete.{complete}
-use Rattle.json.specs.Beyond.{Along, along_start, along_nested, along_text, Goes, on, opens, dies, goes, none_opens, opens_early, opens_once}
-use Rattle.json.specs.Check.{ended, blame, check_from}
-use Rattle.json.specs.Verdict.{max_depth, max_bytes, text_verdict, record_verdict, RecordSays, taken, long, wrong, deep}
+use Rattle.json_text.specs.Grammar.{JsonText, Nested}
+use Rattle.json_text.specs.Room.{left, endless}
+use Rattle.json_text.specs.Machine.{value_due, State, dead, at, accept}
+use Rattle.json_text.specs.Sound.{sound}
+use Rattle.json_text.specs.Complete.{complete}
+use Rattle.json_text.specs.Beyond.{Along, along_start, along_nested, along_text, Goes, on, opens, dies, goes, none_opens, opens_early, opens_once}
+use Rattle.json_text.specs.Check.{ended, blame, check_from}
+use Rattle.json_text.specs.Verdict.{max_depth, max_bytes, text_verdict, record_verdict, RecordSays, taken, long, wrong, deep}
 
 pub nested_text : (n : ℕ) (s : List ℕ) → Nested n s → JsonText s
 nested_text n s j = record { tree = j.tree; written = j.written }

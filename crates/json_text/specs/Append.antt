@@ -4,10 +4,10 @@ use Rattle.std.proofs.Common.{ap, ◌∙◌, arith}
 use Rattle.encoding.specs.Bytes.{put_in, put_blanks}
 use Rattle.encoding.specs.BytesLaws.{append_in, append_blanks, size, length_blanks}
 use Rattle.encoding.specs.Utf8Laws.{append-wide, wide_positive}
-use Rattle.json.specs.Grammar as G
-use Rattle.json.specs.Grammar.{Literal, Minus, Int, Frac, ExpSign, Exp, Char, Kind, Key, opening, closing, Value, Items, More, Tree}
-use Rattle.json.specs.Grammar.{put_literal, put_minus, put_int, put_frac, put_exp_sign, put_exp, put_char}
-use Rattle.json.specs.Grammar.{put_chars, put_string, put_key, put_value, put_items, put_more, text}
+use Rattle.json_text.specs.Grammar as G
+use Rattle.json_text.specs.Grammar.{Literal, Minus, Int, Frac, ExpSign, Exp, Char, Kind, Key, opening, closing, Value, Items, More, Tree}
+use Rattle.json_text.specs.Grammar.{put_literal, put_minus, put_int, put_frac, put_exp_sign, put_exp, put_char}
+use Rattle.json_text.specs.Grammar.{put_chars, put_string, put_key, put_value, put_items, put_more, text}
 
 -- bytes appended to what stands after x are appended to the whole
 

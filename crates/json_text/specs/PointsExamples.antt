@@ -2,10 +2,10 @@
 use Rattle.std.specs.Prelude.{◌≡◌, refl, List, [], ◌∷◌, ℕ}
 use Rattle.std.proofs.Math.Option.{Option, some, none}
 use Rattle.encoding.specs.Ascii.{ascii}
-use Rattle.json.specs.Grammar as G
-use Rattle.json.specs.Grammar.{Value, Tree}
-use Rattle.json.specs.Points.{points_of}
-use Rattle.json.specs.TreeOf.{tree_of}
+use Rattle.json_text.specs.Grammar as G
+use Rattle.json_text.specs.Grammar.{Value, Tree}
+use Rattle.json_text.specs.Points.{points_of}
+use Rattle.json_text.specs.TreeOf.{tree_of}
 
 -- the code points of a value that is a string, and of a record that is one
 

@@ -5,9 +5,9 @@ use Rattle.encoding.specs.Ascii.{ascii}
 use Rattle.encoding.specs.Bytes.{space}
 use Rattle.encoding.specs.Utf8.{Wide, c2_df}
 use Rattle.encoding.specs.Verdict.{Verdict, taken, refused}
-use Rattle.json.specs.Grammar as G
-use Rattle.json.specs.Grammar.{Value, Name, text, nesting, Nested, array, object}
-use Rattle.json.specs.Verdict.{record_verdict}
+use Rattle.json_text.specs.Grammar as G
+use Rattle.json_text.specs.Grammar.{Value, Name, text, nesting, Nested, array, object}
+use Rattle.json_text.specs.Verdict.{record_verdict}
 
 -- bytes between quotes
 quoted : List ℕ → List ℕ

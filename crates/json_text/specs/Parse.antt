@@ -8,8 +8,8 @@ use Rattle.encoding.specs.Hex as H
 use Rattle.encoding.specs.Hex.{Hex}
 use Rattle.encoding.specs.Utf8 as U
 use Rattle.encoding.specs.Utf8.{Tail}
-use Rattle.json.specs.Grammar as G
-use Rattle.json.specs.Grammar.{Digit, Minus, Int, Frac, ExpSign, E, Exp, Char, Kind, Name, Key, Value}
+use Rattle.json_text.specs.Grammar as G
+use Rattle.json_text.specs.Grammar.{Digit, Minus, Int, Frac, ExpSign, E, Exp, Char, Kind, Name, Key, Value}
 
 -- what was read with the bytes after it, or nothing
 abbrev pub Got : Type 0 → Type 0

@@ -3,11 +3,11 @@
 use Rattle.std.specs.Prelude.{◌≡◌, refl, List, [], ◌∷◌, ◌++◌, ℕ, suc, ◌<◌, take, length, get_or}
 use Rattle.std.proofs.Common.{ap, ◌∙◌, take-suc}
 use Rattle.encoding.specs.Prefix.{Alive}
-use Rattle.json.specs.Room.{Room}
-use Rattle.json.specs.RoomLaws.{Texts}
-use Rattle.json.specs.Machine.{Ctl, Stack, State, dead, at, step, run, start}
-use Rattle.json.specs.Sound.{sound}
-use Rattle.json.specs.Complete.{complete, viable, dead_accepts}
+use Rattle.json_text.specs.Room.{Room}
+use Rattle.json_text.specs.RoomLaws.{Texts}
+use Rattle.json_text.specs.Machine.{Ctl, Stack, State, dead, at, step, run, start}
+use Rattle.json_text.specs.Sound.{sound}
+use Rattle.json_text.specs.Complete.{complete, viable, dead_accepts}
 
 pub run-append : (st : State) (p u : List ℕ) → run st (p ++ u) ≡ run (run st p) u
 unfolding run

@@ -5,11 +5,11 @@ use Rattle.std.proofs.Math.Path.{refl, ap}
 use Rattle.std.proofs.Common.{sym, ◌∙◌, arith, drop_of_length-le, drop-cons}
 use Rattle.std.proofs.Math.Numerals.{add-one}
 use Rattle.encoding.specs.Verdict.{Verdict, refused}
-use Rattle.json.specs.Grammar.{Kind, array, opening}
-use Rattle.json.specs.Room.{Room, left, endless}
-use Rattle.json.specs.Machine.{Ctl, item, Stack, State, dead, at, entered, step, final, is_empty, accept}
-use Rattle.json.specs.MachineLaws.{Freed, both_dead, alike, no_room, step_freed, item_open}
-use Rattle.json.specs.Check.{ended, blame, check_from}
+use Rattle.json_text.specs.Grammar.{Kind, array, opening}
+use Rattle.json_text.specs.Room.{Room, left, endless}
+use Rattle.json_text.specs.Machine.{Ctl, item, Stack, State, dead, at, entered, step, final, is_empty, accept}
+use Rattle.json_text.specs.MachineLaws.{Freed, both_dead, alike, no_room, step_freed, item_open}
+use Rattle.json_text.specs.Check.{ended, blame, check_from}
 
 -- the verdict on the text s from place i on
 unfoldable pub here : List ℕ → Ctl → Stack → Room → ℕ → Verdict

@@ -3,9 +3,9 @@ use Rattle.std.specs.Prelude.{◌≡◌, List, Bool, true, false, ℕ, ◌+◌, 
 use Rattle.std.proofs.Math.Path.{refl}
 use Rattle.std.proofs.Common.{◌∙◌, arith}
 use Rattle.encoding.specs.Verdict.{Verdict, refused}
-use Rattle.json.specs.Room.{Room, endless}
-use Rattle.json.specs.Machine.{Ctl, Stack, dead, at, step, final}
-use Rattle.json.specs.CheckLaws.{here, go_at, die_at, end_at, same_at, end_same, skip}
+use Rattle.json_text.specs.Room.{Room, endless}
+use Rattle.json_text.specs.Machine.{Ctl, Stack, dead, at, step, final}
+use Rattle.json_text.specs.CheckLaws.{here, go_at, die_at, end_at, same_at, end_same, skip}
 
 -- the verdict goes on from the control state d at place r, or is ground 5 there
 unfoldable pub outcome : Bool → List ℕ → Ctl → Stack → Room → ℕ → Verdict

@@ -8,16 +8,16 @@ use Prim.Native.Nat as N
 use Rattle.encoding.specs.Bytes as B
 use Rattle.encoding.specs.Bytes.{In, put_in, Blanks, put_blanks, same_numbers}
 use Rattle.encoding.specs.BytesLaws.{make, in_bounds, length_blanks, same_numbers_lem}
-use Rattle.json.specs.Grammar as G
-use Rattle.json.specs.Grammar.{Literal, Minus, Int, Char, Kind, Key, opening, closing, Value, Items, More, Tree, JsonText}
-use Rattle.json.specs.Grammar.{put_literal, put_minus, put_int, put_frac, put_exp, put_string, put_key, put_value, put_items, put_more, text}
-use Rattle.json.specs.Append.{length-key, length_value, value_positive, length_more, more_positive}
-use Rattle.json.specs.Parse.{Got, Parser, got, fail, only, choose, pick, parse_by, parse_byte, parse_bytes, many, blank_of, digit_of}
-use Rattle.json.specs.ParseLaws.{on_got, all_apart, by_other, by_only, blanks_parsed, Solid, solid_in}
-use Rattle.json.specs.Parse.{parse_frac, parse_exp, parse_number}
-use Rattle.json.specs.ParseLaws.{NumberEnd, number_parsed, rest_parsed, key_parsed}
-use Rattle.json.specs.TreeOf.{Parsers, parse_item, parse_items, parse_more, parse_container, parse_value, parsers, parse_end, parse_tree}
-use Rattle.json.specs.TreeOf.{if_same, if_text, tree_of}
+use Rattle.json_text.specs.Grammar as G
+use Rattle.json_text.specs.Grammar.{Literal, Minus, Int, Char, Kind, Key, opening, closing, Value, Items, More, Tree, JsonText}
+use Rattle.json_text.specs.Grammar.{put_literal, put_minus, put_int, put_frac, put_exp, put_string, put_key, put_value, put_items, put_more, text}
+use Rattle.json_text.specs.Append.{length-key, length_value, value_positive, length_more, more_positive}
+use Rattle.json_text.specs.Parse.{Got, Parser, got, fail, only, choose, pick, parse_by, parse_byte, parse_bytes, many, blank_of, digit_of}
+use Rattle.json_text.specs.ParseLaws.{on_got, all_apart, by_other, by_only, blanks_parsed, Solid, solid_in}
+use Rattle.json_text.specs.Parse.{parse_frac, parse_exp, parse_number}
+use Rattle.json_text.specs.ParseLaws.{NumberEnd, number_parsed, rest_parsed, key_parsed}
+use Rattle.json_text.specs.TreeOf.{Parsers, parse_item, parse_items, parse_more, parse_container, parse_value, parsers, parse_end, parse_tree}
+use Rattle.json_text.specs.TreeOf.{if_same, if_text, tree_of}
 
 -- s begins with a byte from lo to hi
 record Begins (lo hi : ℕ) (s : List ℕ) : Type 0 where

@@ -5,12 +5,12 @@ use Rattle.std.proofs.Common.{sym, ◌∙◌, le_antisymm, take_all}
 use native.Mathlib.Omega.{arith, by_contra, not-le}
 use Rattle.encoding.specs.Prefix.{Alive, DeadPlace}
 use Rattle.encoding.specs.PrefixLaws.{alive_less}
-use Rattle.json.specs.Grammar.{JsonText, Nested}
-use Rattle.json.specs.Room.{Room, left, endless}
-use Rattle.json.specs.Machine.{Ctl, value_due, Stack, State, dead, at, step, run, start}
-use Rattle.json.specs.MachineLaws.{Freed, both_dead, alike, no_room, step_freed}
-use Rattle.json.specs.RunLaws.{run_more, alive_run, dead_run_alive}
-use Rattle.json.specs.Verdict.{OpensBeyond}
+use Rattle.json_text.specs.Grammar.{JsonText, Nested}
+use Rattle.json_text.specs.Room.{Room, left, endless}
+use Rattle.json_text.specs.Machine.{Ctl, value_due, Stack, State, dead, at, step, run, start}
+use Rattle.json_text.specs.MachineLaws.{Freed, both_dead, alike, no_room, step_freed}
+use Rattle.json_text.specs.RunLaws.{run_more, alive_run, dead_run_alive}
+use Rattle.json_text.specs.Verdict.{OpensBeyond}
 
 -- the machine with room for n levels and the machine without a limit, over the bytes of s before place i
 pub record Along (n : ℕ) (s : List ℕ) (i : ℕ) : Type 0 where

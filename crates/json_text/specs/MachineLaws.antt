@@ -7,10 +7,10 @@ use Rattle.bits.specs.Truth.{to_T, refuted, or_elim}
 use Rattle.encoding.specs.Bytes as B
 use Rattle.encoding.specs.Bytes.{In, Blank, blank_byte}
 use Rattle.encoding.specs.BytesLaws.{from_low, to_high}
-use Rattle.json.specs.Grammar.{Kind, array, object, opening, closing}
-use Rattle.json.specs.Room.{Room, left, endless, wider}
-use Rattle.json.specs.Machine.{Ctl, item, colon, after, Stack, top, pop, State, dead, at, entered, Rule, one, span}
-use Rattle.json.specs.Machine.{opens, closes, lowest, highest, takes, apply, after_rules, rules, pick, step}
+use Rattle.json_text.specs.Grammar.{Kind, array, object, opening, closing}
+use Rattle.json_text.specs.Room.{Room, left, endless, wider}
+use Rattle.json_text.specs.Machine.{Ctl, item, colon, after, Stack, top, pop, State, dead, at, entered, Rule, one, span}
+use Rattle.json_text.specs.Machine.{opens, closes, lowest, highest, takes, apply, after_rules, rules, pick, step}
 
 -- the first rule that has the byte, or a later one
 pick_this : (r : Rule) (rs : List Rule) (b : ℕ) (k : Stack) (ρ : Room) → takes r b ≡ true → pick (r ∷ rs) b k ρ ≡ apply r k ρ

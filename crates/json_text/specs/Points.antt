@@ -2,8 +2,8 @@
 use Rattle.std.specs.Prelude.{List, [], ◌∷◌, ◌&&◌, ℕ}
 use Rattle.encoding.specs.Hex.{hex_number}
 use Rattle.encoding.specs.Points.{if_else, point_of, is_high, is_low, joined}
-use Rattle.json.specs.Grammar as G
-use Rattle.json.specs.Grammar.{Escape, Char}
+use Rattle.json_text.specs.Grammar as G
+use Rattle.json_text.specs.Grammar.{Escape, Char}
 
 -- what the escapes of two bytes stand for
 abbrev pub escape_point : Escape → ℕ

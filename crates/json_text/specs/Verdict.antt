@@ -3,10 +3,10 @@ use Rattle.std.specs.Prelude.{◌≡◌, List, [], true, false, ℕ, suc, ◌≤
 use Rattle.encoding.specs.Prefix.{Alive, DeadPlace}
 use Rattle.encoding.specs.Verdict as verdict
 use Rattle.encoding.specs.Verdict.{Verdict, refused}
-use Rattle.json.specs.Grammar.{JsonText, Nested, Kind, opening}
-use Rattle.json.specs.Room.{left}
-use Rattle.json.specs.Machine.{value_due}
-use Rattle.json.specs.Check.{check_from}
+use Rattle.json_text.specs.Grammar.{JsonText, Nested, Kind, opening}
+use Rattle.json_text.specs.Room.{left}
+use Rattle.json_text.specs.Machine.{value_due}
+use Rattle.json_text.specs.Check.{check_from}
 
 -- the levels that a record may nest, and the bytes that it may have
 abbrev pub max_depth : ℕ

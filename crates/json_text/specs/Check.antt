@@ -1,8 +1,8 @@
 -- The check of a record's text in one pass of the machine: grounds 5 and 6 of document 01.
 use Rattle.std.specs.Prelude.{List, [], ◌∷◌, Bool, true, false, ℕ, suc}
 use Rattle.encoding.specs.Verdict.{Verdict, taken, refused}
-use Rattle.json.specs.Room.{Room, endless}
-use Rattle.json.specs.Machine.{Ctl, Stack, State, dead, at, step, accept}
+use Rattle.json_text.specs.Room.{Room, endless}
+use Rattle.json_text.specs.Machine.{Ctl, Stack, State, dead, at, step, accept}
 
 -- at the end of the bytes
 abbrev pub ended : Bool → ℕ → Verdict
