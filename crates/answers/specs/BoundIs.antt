@@ -10,15 +10,15 @@ use Rattle.encoding.specs.Verdict.{Verdict, taken}
 use Rattle.json_text.specs.Grammar.{Tree}
 use Rattle.query.specs.Grammar.{Query, steps_of}
 use Rattle.query.specs.Grammar as Q
-use Rattle.query.specs.Says.{query_says, query_says_only, unambiguous}
+use Rattle.query.proofs.Says.{query_says, query_says_only, unambiguous}
 use Rattle.query.specs.Steps.{Step}
 use Rattle.query.specs.Verdict.{QuerySays, query_verdict, steps_in}
 use Rattle.query.specs.Verdict as query
 use Rattle.select.specs.Marks.{Peak}
-use Rattle.select.specs.PeakBound.{plain_then_deep, plain_only, deep_only, bound_holds}
-use Rattle.select.specs.PeakLevels.{peak_levels}
+use Rattle.select.proofs.PeakBound.{plain_then_deep, plain_only, deep_only, bound_holds}
+use Rattle.select.proofs.PeakLevels.{peak_levels}
 use Rattle.select.specs.PileBound.{PileBound, deep, plain, mixed}
-use Rattle.select.specs.PileBoundIs.{pile_bound_is, pile_bound_only}
+use Rattle.select.proofs.PileBoundIs.{pile_bound_is, pile_bound_only}
 use Rattle.select.specs.PileBoundOf.{pile_bound}
 use Rattle.answers.specs.Bound.{is_bound, at_most, bounded_if, frames_if, bounded, frames_bound, BoundsPile}
 use Rattle.answers.specs.BoundSays.{BoundSays, query_refused, deep_last, plain_alone, no_bound, PileStays}

@@ -24,10 +24,10 @@ use Rattle.select.specs.Visits.{Way}
 use Rattle.select.specs.Ways.{hits, frames}
 use Rattle.select.specs.Reach.{Reach, start, down}
 use Rattle.select.specs.MarksStep.{step_hits}
-use Rattle.select.specs.PeakBound.{plain_then_deep, plain_only}
-use Rattle.select.specs.PeakIs.{peak_unique}
-use Rattle.select.specs.PeakLevels.{peak_levels}
-use Rattle.select.specs.PeakReached.{Along, frames_along, frames_plain, Turns, none, hit, miss, frames_turns, reached}
+use Rattle.select.proofs.PeakBound.{plain_then_deep, plain_only}
+use Rattle.select.proofs.PeakIs.{peak_unique}
+use Rattle.select.proofs.PeakLevels.{peak_levels}
+use Rattle.select.proofs.PeakReached.{Along, frames_along, frames_plain, Turns, none, hit, miss, frames_turns, reached}
 use Rattle.select.specs.PileBound.{PlainThenDeep}
 use Rattle.answers.specs.Bound.{max_frames}
 use Rattle.answers.specs.BoundIs.{length-steps}
@@ -217,7 +217,7 @@ deep_last_lem p d some few = (
       deep = steps_of (steps Q.deep d);
       parts = steps-append (steps Q.plain p) (steps Q.deep d);
       all_plain = kind Q.plain p;
-      all_deep_lem = kind Q.deep d;
+      all_deep = kind Q.deep d;
       some_deep = omega (arith, length-steps (steps Q.deep d), length_asked Q.deep d);
     }
 

@@ -14,8 +14,8 @@ use Rattle.query.specs.Grammar as Q
 use Rattle.select.specs.Nodes.{Node}
 use Rattle.select.specs.Marks.{Peak}
 use Rattle.select.specs.Ways.{peak}
-use Rattle.select.specs.PeakIs.{peak_is}
-use Rattle.select.specs.PeakBound.{deep_only}
+use Rattle.select.proofs.PeakIs.{peak_is}
+use Rattle.select.proofs.PeakBound.{deep_only}
 use Rattle.answers.specs.Lister.{pairs_of, Lists}
 use Rattle.answers.specs.Outcome.{done, answered}
 use Rattle.answers.specs.Enumerates.{FirstsRise, Enumerates}

@@ -11,7 +11,7 @@ use Rattle.query.specs.Steps.{Step}
 use Rattle.select.specs.Nodes.{Node}
 use Rattle.select.specs.Picked.{Picked}
 use Rattle.select.specs.Ways.{Span, span_of, spans}
-use Rattle.select.specs.SpansAre.{each_picked_once}
+use Rattle.select.proofs.SpansAre.{each_picked_once}
 use Rattle.answers.specs.Enumerates.{FirstsRise, Enumerates}
 
 -- the pairs listed are of picked nodes

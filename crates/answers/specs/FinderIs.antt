@@ -12,9 +12,9 @@ use Rattle.std.proofs.Math.ListN.{take}
 use Rattle.encoding.specs.Verdict.{Verdict}
 use Rattle.encoding.specs.Verdict as verdict
 use Rattle.json_text.specs.Grammar.{Tree}
-use Rattle.json_text.specs.TreeOfLaws.{unambiguous}
+use Rattle.json_text.proofs.TreeOfLaws.{unambiguous}
 use Rattle.json_text.specs.Verdict.{RecordSays, record_verdict}
-use Rattle.json_text.specs.Says.{record_says, record_says_only}
+use Rattle.json_text.proofs.Says.{record_says, record_says_only}
 use Rattle.json_text.specs.Verdict as J
 use Rattle.select.specs.Nodes.{Node, IsNode, end_of, root}
 use Rattle.select.specs.Visits.{Visit, Way, nodes}

@@ -9,16 +9,16 @@ use Rattle.encoding.specs.Verdict.{Verdict}
 use Rattle.encoding.specs.Verdict as verdict
 use Rattle.json_text.specs.Grammar.{Tree}
 use Rattle.json_text.specs.Verdict.{RecordSays, record_verdict}
-use Rattle.json_text.specs.Says.{record_says, record_says_only}
+use Rattle.json_text.proofs.Says.{record_says, record_says_only}
 use Rattle.json_text.specs.Verdict as J
 use Rattle.query.specs.Grammar.{Query, steps_of}
 use Rattle.query.specs.Verdict.{QuerySays}
 use Rattle.query.specs.Verdict as Q
-use Rattle.query.specs.Says.{query_says, query_says_only}
+use Rattle.query.proofs.Says.{query_says, query_says_only}
 use Rattle.select.specs.Nodes.{Node, end_of}
 use Rattle.select.specs.Marks.{Peak}
 use Rattle.select.specs.Ways.{Span, span_of, peak}
-use Rattle.select.specs.PeakIs.{peak_is, peak_unique}
+use Rattle.select.proofs.PeakIs.{peak_is, peak_unique}
 use Rattle.answers.specs.Lister.{or_else, input_verdict, spans_of, spans_in, peak_of, peak_in, pairs_of, list_verdict, written_if, peak_if, flat, Lists}
 use Rattle.answers.specs.Lister as lister
 use Rattle.answers.specs.Outcome.{Outcome, outcome, done, refused, answered, ending, outcome_by}

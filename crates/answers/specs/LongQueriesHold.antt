@@ -6,7 +6,7 @@ use Rattle.encoding.specs.Verdict.{Verdict}
 use Rattle.encoding.specs.Verdict as verdict
 use Rattle.json_text.specs.Verdict.{record_verdict}
 use Rattle.query.specs.ByNumber.{EarlyFault, by_number}
-use Rattle.query.specs.ByNumberLaws.{early_fault, only_early_faults}
+use Rattle.query.proofs.ByNumberLaws.{early_fault, only_early_faults}
 use Rattle.query.specs.Verdict.{query_verdict}
 use Rattle.answers.specs.Lister.{or_else, input_verdict, spans_in, peak_in}
 use Rattle.answers.specs.Outcome.{Outcome, outcome, outcome_by, refused}

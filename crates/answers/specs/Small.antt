@@ -3,13 +3,13 @@ use Rattle.std.specs.Prelude.{◌≡◌, refl, List, [], ◌∷◌, ◌++◌, �
 use Rattle.std.proofs.Common.{ap, inl, inr, arith}
 use Rattle.encoding.specs.BytesLaws.{size, length_blanks}
 use Rattle.encoding.specs.Verdict.{Verdict}
-use Rattle.json_text.specs.Beyond.{opens_inside}
+use Rattle.json_text.proofs.Beyond.{opens_inside}
 use Rattle.json_text.specs.Verdict as J
 use Rattle.json_text.specs.Verdict.{max_bytes, record_verdict, RecordSays}
-use Rattle.json_text.specs.Says.{record_says}
+use Rattle.json_text.proofs.Says.{record_says}
 use Rattle.query.specs.Append.{append_query}
 use Rattle.query.specs.Grammar.{Query, Spaced, put_query, put_spaced, put_segment, text}
-use Rattle.query.specs.Says.{query_says}
+use Rattle.query.proofs.Says.{query_says}
 use Rattle.query.specs.Verdict as Q
 use Rattle.query.specs.Verdict.{max_query_bytes, query_verdict, QuerySays}
 

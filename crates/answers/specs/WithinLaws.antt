@@ -5,14 +5,14 @@ use Rattle.std.proofs.Math.Option.{some}
 use Rattle.encoding.specs.Verdict.{Verdict, taken}
 use Rattle.json_text.specs.Grammar.{Tree}
 use Rattle.json_text.specs.TreeOf.{tree_of}
-use Rattle.json_text.specs.TreeOfLaws.{tree_of_text}
+use Rattle.json_text.proofs.TreeOfLaws.{tree_of_text}
 use Rattle.json_text.specs.Verdict.{RecordSays, record_verdict}
 use Rattle.json_text.specs.Verdict as json
-use Rattle.json_text.specs.Says.{record_says, record_taken}
+use Rattle.json_text.proofs.Says.{record_says, record_taken}
 use Rattle.query.specs.Grammar.{Query, steps_of}
 use Rattle.query.specs.Verdict.{QuerySays, steps_in, query_verdict}
 use Rattle.query.specs.Verdict as query
-use Rattle.query.specs.Says.{steps_in_text, query_says, query_taken}
+use Rattle.query.proofs.Says.{steps_in_text, query_says, query_taken}
 use Rattle.answers.specs.Within.{QueryIs, RecordIs}
 
 module _ {s : List ℕ} {q : Query} (h : QueryIs s q) where

@@ -7,9 +7,9 @@ use Rattle.json_text.specs.Grammar.{Tree, text}
 use Rattle.query.specs.Steps.{Step}
 use Rattle.select.specs.Nodes.{Node, size, end_of, root}
 use Rattle.select.specs.Order.{Rises, child_within, first_before_end}
-use Rattle.select.specs.PeakIs.{most_bound}
+use Rattle.select.proofs.PeakIs.{most_bound}
 use Rattle.select.specs.Reach.{Reach, start, down, nodes_are}
-use Rattle.select.specs.SpansAre.{first_bytes, spans_rise}
+use Rattle.select.proofs.SpansAre.{first_bytes, spans_rise}
 use Rattle.select.specs.Visits.{Way, nodes}
 use Rattle.automaton.specs.TallyIs.{stop_at}
 use Rattle.select.specs.Ways.{Span, same_marks, frame_if, frames, spans, peak}

@@ -13,7 +13,7 @@ use Rattle.query.specs.Steps.{Step, is_deep}
 use Rattle.json_text.specs.Grammar.{Tree}
 use Rattle.select.specs.Nodes.{Label, root}
 use Rattle.select.specs.MarksStep.{step_hits, mark_root, mark_root_suc, mark-zero, mark-suc, picks_step, picks_top}
-use Rattle.select.specs.MarksAre.{first_marks}
+use Rattle.select.proofs.MarksAre.{first_marks}
 use Rattle.select.specs.Visits.{Way, step, node_visits, nodes}
 use Rattle.select.specs.VisitsMap.{over, visits_map}
 use Rattle.select.specs.Ways.{mark, picks_back, picks, same_marks, frames}

@@ -135,13 +135,13 @@ module _ (f : Bool) (k : Stack) (ρ : Room) {b : ℕ} where
   first_step : {d : Due} → First b d → step (at (in_string f) k ρ) b ≡ at (tails d f) k ρ
   unfolding landing
   first_step (U.in_c2_df l h) = step_range (in_string f) k ρ 0xC2 0xDF b (at (tails U.one f) k ρ) refl l h
-  first_step (U.in_e0 l h) = step_range (in_string f) k ρ 0xE0 0xE0 b (at (tails U.after_e0_lem f) k ρ) refl l h
+  first_step (U.in_e0 l h) = step_range (in_string f) k ρ 0xE0 0xE0 b (at (tails U.due_e0 f) k ρ) refl l h
   first_step (U.in_e1_ec l h) = step_range (in_string f) k ρ 0xE1 0xEC b (at (tails U.two f) k ρ) refl l h
-  first_step (U.in_ed l h) = step_range (in_string f) k ρ 0xED 0xED b (at (tails U.after_ed f) k ρ) refl l h
+  first_step (U.in_ed l h) = step_range (in_string f) k ρ 0xED 0xED b (at (tails U.due_ed f) k ρ) refl l h
   first_step (U.in_ee_ef l h) = step_range (in_string f) k ρ 0xEE 0xEF b (at (tails U.two f) k ρ) refl l h
-  first_step (U.in_f0 l h) = step_range (in_string f) k ρ 0xF0 0xF0 b (at (tails U.after_f0_lem f) k ρ) refl l h
+  first_step (U.in_f0 l h) = step_range (in_string f) k ρ 0xF0 0xF0 b (at (tails U.due_f0 f) k ρ) refl l h
   first_step (U.in_f1_f3 l h) = step_range (in_string f) k ρ 0xF1 0xF3 b (at (tails U.three f) k ρ) refl l h
-  first_step (U.in_f4 l h) = step_range (in_string f) k ρ 0xF4 0xF4 b (at (tails U.after_f4_lem f) k ρ) refl l h
+  first_step (U.in_f4 l h) = step_range (in_string f) k ρ 0xF4 0xF4 b (at (tails U.due_f4 f) k ρ) refl l h
 
   too_low_dead : 0x80 ≤ b → b < 0xC2 → step (at (in_string f) k ρ) b ≡ dead
   unfolding landing
@@ -154,10 +154,10 @@ module _ (f : Bool) (k : Stack) (ρ : Room) {b : ℕ} where
   next_step : {d e : Due} → Next d e → lowest d ≤ b → b ≤ highest d → step (at (tails d f) k ρ) b ≡ at (tails e f) k ρ
   next_step U.three_two l h = step_by (tails U.three f) k ρ {o = some (span 0x80 0xBF (tails U.two f))} (inside l h)
   next_step U.two_one l h = step_by (tails U.two f) k ρ {o = some (span 0x80 0xBF (tails U.one f))} (inside l h)
-  next_step U.e0_one l h = step_by (tails U.after_e0_lem f) k ρ {o = some (span 0xA0 0xBF (tails U.one f))} (inside l h)
-  next_step U.ed_one l h = step_by (tails U.after_ed f) k ρ {o = some (span 0x80 0x9F (tails U.one f))} (inside l h)
-  next_step U.f0_two l h = step_by (tails U.after_f0_lem f) k ρ {o = some (span 0x90 0xBF (tails U.two f))} (inside l h)
-  next_step U.f4_two l h = step_by (tails U.after_f4_lem f) k ρ {o = some (span 0x80 0x8F (tails U.two f))} (inside l h)
+  next_step U.e0_one l h = step_by (tails U.due_e0 f) k ρ {o = some (span 0xA0 0xBF (tails U.one f))} (inside l h)
+  next_step U.ed_one l h = step_by (tails U.due_ed f) k ρ {o = some (span 0x80 0x9F (tails U.one f))} (inside l h)
+  next_step U.f0_two l h = step_by (tails U.due_f0 f) k ρ {o = some (span 0x90 0xBF (tails U.two f))} (inside l h)
+  next_step U.f4_two l h = step_by (tails U.due_f4 f) k ρ {o = some (span 0x80 0x8F (tails U.two f))} (inside l h)
 
   last_step : 0x80 ≤ b → b ≤ 0xBF → step (at (tails U.one f) k ρ) b ≡ at (in_string f) k ρ
   last_step l h = step_by (tails U.one f) k ρ {o = some (span 0x80 0xBF (in_string f))} (inside l h)
@@ -167,19 +167,19 @@ module _ (f : Bool) (k : Stack) (ρ : Room) {b : ℕ} where
   out_dead U.one n = step_by (tails U.one f) k ρ {o = none} (past n nowhere)
   out_dead U.two n = step_by (tails U.two f) k ρ {o = none} (past n nowhere)
   out_dead U.three n = step_by (tails U.three f) k ρ {o = none} (past n nowhere)
-  out_dead U.after_e0_lem n = step_by (tails U.after_e0_lem f) k ρ {o = none} (past n nowhere)
-  out_dead U.after_ed n = step_by (tails U.after_ed f) k ρ {o = none} (past n nowhere)
-  out_dead U.after_f0_lem n = step_by (tails U.after_f0_lem f) k ρ {o = none} (past n nowhere)
-  out_dead U.after_f4_lem n = step_by (tails U.after_f4_lem f) k ρ {o = none} (past n nowhere)
+  out_dead U.due_e0 n = step_by (tails U.due_e0 f) k ρ {o = none} (past n nowhere)
+  out_dead U.due_ed n = step_by (tails U.due_ed f) k ρ {o = none} (past n nowhere)
+  out_dead U.due_f0 n = step_by (tails U.due_f0 f) k ρ {o = none} (past n nowhere)
+  out_dead U.due_f4 n = step_by (tails U.due_f4 f) k ρ {o = none} (past n nowhere)
 
 tails_final : (d : Due) (f : Bool) → final (tails d f) ≡ false
 tails_final U.one f = refl
 tails_final U.two f = refl
 tails_final U.three f = refl
-tails_final U.after_e0_lem f = refl
-tails_final U.after_ed f = refl
-tails_final U.after_f0_lem f = refl
-tails_final U.after_f4_lem f = refl
+tails_final U.due_e0 f = refl
+tails_final U.due_ed f = refl
+tails_final U.due_f0 f = refl
+tails_final U.due_f4 f = refl
 
 led_tails : {s : List ℕ} {a : ℕ} {c : Ctl} (f : Bool) {d : Due} {i : ℕ} {ok : Bool} {r : ℕ} → Led s a c (tails d f) true i → RestAt s d i ok r →
     Led s a c (in_string f) ok r

@@ -28,7 +28,7 @@ decode_by rs [] = short
 decode_by [] (b ∷ s) = wrong 0
 decode_by (r ∷ rs) (b ∷ s) =
     elim (leb r.low b && leb b r.high) [
-      | true ↦ later (due r.second_low_lem r.second_high_lem (r.bytes - 1) s)
+      | true ↦ later (due r.second_low r.second_high (r.bytes - 1) s)
       | false ↦ decode_by rs (b ∷ s)
     ]
 

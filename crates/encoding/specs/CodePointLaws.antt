@@ -10,7 +10,7 @@ use Rattle.encoding.specs.Utf8Laws.{append-wide}
 use Rattle.encoding.specs.Prefix.{Alive, DeadPlace}
 use Rattle.encoding.specs.PrefixLaws.{alive-take, dead_place_unique}
 use Rattle.encoding.specs.CodePoint.{Decoding, whole, wrong, short, later, due, decoding, is_whole, extent, StartsWide}
-use Rattle.encoding.specs.Utf8Steps.{Due, one, two, three, after_e0_lem, after_ed, after_f0_lem, after_f4_lem, lowest, highest, more, due_at}
+use Rattle.encoding.specs.Utf8Steps.{Due, one, two, three, due_e0, due_ed, due_f0, due_f4, lowest, highest, more, due_at}
 use Rattle.encoding.specs.Utf8Steps.{First, in_c2_df, in_e0, in_e1_ec, in_ed, in_ee_ef, in_f0, in_f1_f3, in_f4}
 use Rattle.encoding.specs.Utf8Steps.{Next, two_one, three_two, e0_one, ed_one, f0_two, f4_two}
 use Rattle.encoding.specs.Utf8Steps.{Rest, cut, under, over, last, next, Reads, empty, too_low, too_high, first}
@@ -108,10 +108,10 @@ owed : (d : Due) → Owed d
 owed one = end tail
 owed two = on two_one tail (end tail)
 owed three = on three_two tail (on two_one tail (end tail))
-owed after_e0_lem = on e0_one (record { byte = 0xA0; ok = tt }) (end tail)
-owed after_ed = on ed_one (record { byte = 0x80; ok = tt }) (end tail)
-owed after_f0_lem = on f0_two (record { byte = 0x90; ok = tt }) (on two_one tail (end tail))
-owed after_f4_lem = on f4_two (record { byte = 0x80; ok = tt }) (on two_one tail (end tail))
+owed due_e0 = on e0_one (record { byte = 0xA0; ok = tt }) (end tail)
+owed due_ed = on ed_one (record { byte = 0x80; ok = tt }) (end tail)
+owed due_f0 = on f0_two (record { byte = 0x90; ok = tt }) (on two_one tail (end tail))
+owed due_f4 = on f4_two (record { byte = 0x80; ok = tt }) (on two_one tail (end tail))
 
 -- one byte more
 pub is_whole_later : (x : Decoding) → is_whole (later x) ≡ is_whole x

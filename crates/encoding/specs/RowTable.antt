@@ -14,7 +14,7 @@ use Rattle.encoding.specs.Utf8Steps.{after_row, row_at, row_hit}
 
 -- the numbers of a row
 abbrev pub numbers : Row → List ℕ
-numbers r = r.low ∷ r.high ∷ r.second_low_lem ∷ r.second_high_lem ∷ r.bytes ∷ []
+numbers r = r.low ∷ r.high ∷ r.second_low ∷ r.second_high ∷ r.bytes ∷ []
 
 pub record RowTable (table : List (List ℕ)) : Type 0 where
   pub same : table ≡ map numbers rows
@@ -23,8 +23,8 @@ pub record RowTable (table : List (List ℕ)) : Type 0 where
 pub record RowIs (n low high least most bytes : ℕ) : Type 0 where
   pub low_is : low ≡ (row_at rows n).low
   pub high_is : high ≡ (row_at rows n).high
-  pub least_is : least ≡ (row_at rows n).second_low_lem
-  pub most_is : most ≡ (row_at rows n).second_high_lem
+  pub least_is : least ≡ (row_at rows n).second_low
+  pub most_is : most ≡ (row_at rows n).second_high
   pub bytes_are : bytes ≡ (row_at rows n).bytes
 
 -- r is the number of the row, after the first, that has b as a first byte, or 9 where none has
@@ -68,10 +68,10 @@ module _ {table : List (List ℕ)} (t : RowTable table) (n : ℕ) (h : n < 9) wh
   pub high_at : get_or (get_or table n []) 1 0 ≡ (row_at rows n).high
   high_at = field_at 1
 
-  pub second_low_at : get_or (get_or table n []) 2 0 ≡ (row_at rows n).second_low_lem
+  pub second_low_at : get_or (get_or table n []) 2 0 ≡ (row_at rows n).second_low
   second_low_at = field_at 2
 
-  pub second_high_at : get_or (get_or table n []) 3 0 ≡ (row_at rows n).second_high_lem
+  pub second_high_at : get_or (get_or table n []) 3 0 ≡ (row_at rows n).second_high
   second_high_at = field_at 3
 
   pub bytes_at : get_or (get_or table n []) 4 0 ≡ (row_at rows n).bytes

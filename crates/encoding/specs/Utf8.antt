@@ -30,19 +30,19 @@ put_wide (f4 x y z w) s = x.byte ∷ y.byte ∷ z.byte ∷ w.byte ∷ s
 
 -- what may follow the first byte of a code point from 80 (hexadecimal) on: any byte of 80-BF, or fewer after E0, ED, F0, F4
 pub data Second : Type 0 where
-  any_tail after_e0 after_eD after_f0 after_f4 : Second
+  any_tail after_e0 after_ed after_f0 after_f4 : Second
 
 abbrev pub second_low : Second → ℕ
 second_low any_tail = 0x80
 second_low after_e0 = 0xA0
-second_low after_eD = 0x80
+second_low after_ed = 0x80
 second_low after_f0 = 0x90
 second_low after_f4 = 0x80
 
 abbrev pub second_high : Second → ℕ
 second_high any_tail = 0xBF
 second_high after_e0 = 0xBF
-second_high after_eD = 0x9F
+second_high after_ed = 0x9F
 second_high after_f0 = 0xBF
 second_high after_f4 = 0x8F
 
@@ -51,12 +51,12 @@ second_high after_f4 = 0x8F
 pub record Row : Type 0 where
   pub low : ℕ
   pub high : ℕ
-  pub second_low_lem : ℕ
-  pub second_high_lem : ℕ
+  pub second_low : ℕ
+  pub second_high : ℕ
   pub bytes : ℕ
 
 abbrev pub row : ℕ → ℕ → ℕ → ℕ → ℕ → Row
-row l h l₂ h₂ n = record { low = l; high = h; second_low_lem = l₂; second_high_lem = h₂; bytes = n }
+row l h l₂ h₂ n = record { low = l; high = h; second_low = l₂; second_high = h₂; bytes = n }
 
 -- the nine rows; the first has no second byte
 unfoldable pub rows : List Row

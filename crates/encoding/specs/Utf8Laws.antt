@@ -3,7 +3,7 @@ use Rattle.std.specs.Prelude.{◌≡◌, refl, List, [], ◌++◌, ℕ, zero, su
 use Rattle.std.proofs.Common.{arith}
 use Rattle.encoding.specs.BytesLaws.{Then}
 use Rattle.encoding.specs.Utf8.{Wide, c2_df, e0, e1_ec, ed, ee_ef, f0, f1_f3, f4, put_wide}
-use Rattle.encoding.specs.Utf8.{Second, any_tail, after_e0, after_eD, after_f0, after_f4, second_low, second_high}
+use Rattle.encoding.specs.Utf8.{Second, any_tail, after_e0, after_ed, after_f0, after_f4, second_low, second_high}
 
 -- what is appended to the bytes after a code point is appended to the whole
 pub append-wide : (p : Wide) (s u : List ℕ) → put_wide p (s ++ u) ≡ put_wide p s ++ u
@@ -32,7 +32,7 @@ wide_positive (f4 x y z w) = omega arith
 pub second_some : (p : Second) → second_low p ≤ second_high p
 second_some any_tail = omega arith
 second_some after_e0 = omega arith
-second_some after_eD = omega arith
+second_some after_ed = omega arith
 second_some after_f0 = omega arith
 second_some after_f4 = omega arith
 

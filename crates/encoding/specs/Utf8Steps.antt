@@ -5,23 +5,23 @@ use Rattle.std.proofs.Common.{◌∙◌, inl, inr, arith, leb-true, leb-false}
 use mathlib.Core.List.{List, [], ◌∷◌}
 use Prim.Native.Nat.{ℕ, zero, suc, ◌≤◌, ◌<◌, ◌-◌}
 use Rattle.encoding.specs.BytesLaws.{inside, beneath, beyond}
-use Rattle.encoding.specs.Utf8.{Second, any_tail, after_e0, after_eD, after_f0, after_f4, second_low, second_high, Row, row, rows}
+use Rattle.encoding.specs.Utf8.{Second, any_tail, after_e0, after_ed, after_f0, after_f4, second_low, second_high, Row, row, rows}
 use Rattle.encoding.specs.CodePoint.{Decoding, whole, wrong, short, later, due, decode_by, decoding}
 
 -- one, two or three bytes from 80 to BF, or what follows this first byte
 pub data Due : Type 0 where
   one two three : Due
-  after_e0_lem after_ed after_f0_lem after_f4_lem : Due
+  due_e0 due_ed due_f0 due_f4 : Due
 
 -- the next byte, and its bounds
 abbrev pub second : Due → Second
 second one = any_tail
 second two = any_tail
 second three = any_tail
-second after_e0_lem = after_e0
-second after_ed = after_eD
-second after_f0_lem = after_f0
-second after_f4_lem = after_f4
+second due_e0 = after_e0
+second due_ed = after_ed
+second due_f0 = after_f0
+second due_f4 = after_f4
 
 abbrev pub lowest : Due → ℕ
 lowest d = second_low (second d)
@@ -34,30 +34,30 @@ abbrev pub more : Due → ℕ
 more one = 0
 more two = 1
 more three = 2
-more after_e0_lem = 1
-more after_ed = 1
-more after_f0_lem = 2
-more after_f4_lem = 2
+more due_e0 = 1
+more due_ed = 1
+more due_f0 = 2
+more due_f4 = 2
 
 -- what a first byte makes due
 pub data First : ℕ → Due → Type 0 where
   in_c2_df : {b : ℕ} → 0xC2 ≤ b → b ≤ 0xDF → First b one
-  in_e0 : {b : ℕ} → 0xE0 ≤ b → b ≤ 0xE0 → First b after_e0_lem
+  in_e0 : {b : ℕ} → 0xE0 ≤ b → b ≤ 0xE0 → First b due_e0
   in_e1_ec : {b : ℕ} → 0xE1 ≤ b → b ≤ 0xEC → First b two
-  in_ed : {b : ℕ} → 0xED ≤ b → b ≤ 0xED → First b after_ed
+  in_ed : {b : ℕ} → 0xED ≤ b → b ≤ 0xED → First b due_ed
   in_ee_ef : {b : ℕ} → 0xEE ≤ b → b ≤ 0xEF → First b two
-  in_f0 : {b : ℕ} → 0xF0 ≤ b → b ≤ 0xF0 → First b after_f0_lem
+  in_f0 : {b : ℕ} → 0xF0 ≤ b → b ≤ 0xF0 → First b due_f0
   in_f1_f3 : {b : ℕ} → 0xF1 ≤ b → b ≤ 0xF3 → First b three
-  in_f4 : {b : ℕ} → 0xF4 ≤ b → b ≤ 0xF4 → First b after_f4_lem
+  in_f4 : {b : ℕ} → 0xF4 ≤ b → b ≤ 0xF4 → First b due_f4
 
 -- what is due after one byte more
 pub data Next : Due → Due → Type 0 where
   three_two : Next three two
   two_one : Next two one
-  e0_one : Next after_e0_lem one
-  ed_one : Next after_ed one
-  f0_two : Next after_f0_lem two
-  f4_two : Next after_f4_lem two
+  e0_one : Next due_e0 one
+  ed_one : Next due_ed one
+  f0_two : Next due_f0 two
+  f4_two : Next due_f4 two
 
 -- how the bytes due are read
 pub data Rest : Due → List ℕ → Decoding → Type 0 where
@@ -108,7 +108,7 @@ Under (r ∷ rs) b = (b < r.low) × Under rs b
 
 -- what is due after a first byte of the row
 abbrev pub after_row : Row → List ℕ → Decoding
-after_row r s = due r.second_low_lem r.second_high_lem (r.bytes - 1) s
+after_row r s = due r.second_low r.second_high (r.bytes - 1) s
 
 abbrev pub row_at : List Row → ℕ → Row
 row_at rs n = get_or rs n (row 0 0 0 0 0)
@@ -186,10 +186,10 @@ rest d [] = cut
 rest one (b ∷ s) = split one b s (λ l h. rw (due_on 0x80 0xBF 0 b s l h) (last l h))
 rest two (b ∷ s) = split two b s (λ l h. rw (next_reads two_one b s l h) (next two_one l h (rest one s)))
 rest three (b ∷ s) = split three b s (λ l h. rw (next_reads three_two b s l h) (next three_two l h (rest two s)))
-rest after_e0_lem (b ∷ s) = split after_e0_lem b s (λ l h. rw (next_reads e0_one b s l h) (next e0_one l h (rest one s)))
-rest after_ed (b ∷ s) = split after_ed b s (λ l h. rw (next_reads ed_one b s l h) (next ed_one l h (rest one s)))
-rest after_f0_lem (b ∷ s) = split after_f0_lem b s (λ l h. rw (next_reads f0_two b s l h) (next f0_two l h (rest two s)))
-rest after_f4_lem (b ∷ s) = split after_f4_lem b s (λ l h. rw (next_reads f4_two b s l h) (next f4_two l h (rest two s)))
+rest due_e0 (b ∷ s) = split due_e0 b s (λ l h. rw (next_reads e0_one b s l h) (next e0_one l h (rest one s)))
+rest due_ed (b ∷ s) = split due_ed b s (λ l h. rw (next_reads ed_one b s l h) (next ed_one l h (rest one s)))
+rest due_f0 (b ∷ s) = split due_f0 b s (λ l h. rw (next_reads f0_two b s l h) (next f0_two l h (rest two s)))
+rest due_f4 (b ∷ s) = split due_f4 b s (λ l h. rw (next_reads f4_two b s l h) (next f4_two l h (rest two s)))
 
 at_most : (b k : ℕ) → (b ≤ k) ⊎ (k < b)
 at_most b k = go (leb b k) refl
@@ -204,10 +204,10 @@ first_of b l h = df (at_most b 0xDF)
   where
     f3 : 0xF0 < b → (b ≤ 0xF3) ⊎ (0xF3 < b) → (d : Due) × First b d
     f3 g (inl e) = (three, in_f1_f3 g e)
-    f3 g (inr e) = (after_f4_lem, in_f4 e h)
+    f3 g (inr e) = (due_f4, in_f4 e h)
 
     f0 : 0xEF < b → (b ≤ 0xF0) ⊎ (0xF0 < b) → (d : Due) × First b d
-    f0 g (inl e) = (after_f0_lem, in_f0 g e)
+    f0 g (inl e) = (due_f0, in_f0 g e)
     f0 g (inr e) = f3 e (at_most b 0xF3)
 
     ef : 0xED < b → (b ≤ 0xEF) ⊎ (0xEF < b) → (d : Due) × First b d
@@ -215,7 +215,7 @@ first_of b l h = df (at_most b 0xDF)
     ef g (inr e) = f0 e (at_most b 0xF0)
 
     ed : 0xEC < b → (b ≤ 0xED) ⊎ (0xED < b) → (d : Due) × First b d
-    ed g (inl e) = (after_ed, in_ed g e)
+    ed g (inl e) = (due_ed, in_ed g e)
     ed g (inr e) = ef e (at_most b 0xEF)
 
     ec : 0xE0 < b → (b ≤ 0xEC) ⊎ (0xEC < b) → (d : Due) × First b d
@@ -223,7 +223,7 @@ first_of b l h = df (at_most b 0xDF)
     ec g (inr e) = ed e (at_most b 0xED)
 
     e0 : 0xDF < b → (b ≤ 0xE0) ⊎ (0xE0 < b) → (d : Due) × First b d
-    e0 g (inl e) = (after_e0_lem, in_e0 g e)
+    e0 g (inl e) = (due_e0, in_e0 g e)
     e0 g (inr e) = ec e (at_most b 0xEC)
 
     df : (b ≤ 0xDF) ⊎ (0xDF < b) → (d : Due) × First b d

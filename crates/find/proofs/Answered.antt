@@ -10,7 +10,7 @@ use Rattle.encoding.specs.Verdict.{Verdict}
 use Rattle.json_text.specs.Append.{length-text}
 use Rattle.json_text.specs.Grammar.{Tree}
 use Rattle.json_text.specs.Verdict.{record_verdict}
-use Rattle.json_text.specs.Says.{record_says}
+use Rattle.json_text.proofs.Says.{record_says}
 use Rattle.select.specs.Nodes.{IsNode, size, end_of, root}
 use Rattle.select.specs.Order.{first_before_end, below_within}
 use Rattle.select.specs.Visits.{nodes}

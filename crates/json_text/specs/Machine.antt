@@ -1,7 +1,7 @@
 -- The record grammar as a machine that takes one byte at a time: a control state, the stack of the containers around it, and the room left.
 use Rattle.std.specs.Prelude.{List, [], ◌∷◌, Bool, true, false, ◌&&◌, ℕ, zero, suc, leb}
 use Rattle.std.proofs.Math.Option.{Option, some, none}
-use Rattle.encoding.specs.Utf8.{Second, any_tail, after_e0, after_eD, after_f0, after_f4, second_low, second_high}
+use Rattle.encoding.specs.Utf8.{Second, any_tail, after_e0, after_ed, after_f0, after_f4, second_low, second_high}
 use Rattle.json_text.specs.Grammar.{Kind, array, object, opening, closing}
 use Rattle.json_text.specs.Room.{Room, left, endless, wider}
 
@@ -113,7 +113,7 @@ rules (in_string f) o =
     one 0x22 (closed f) ∷ one 0x5C (escaping f) ∷
     span 0xC2 0xDF (tail_due any_tail 0 f) ∷
     span 0xE0 0xE0 (tail_due after_e0 1 f) ∷ span 0xE1 0xEC (tail_due any_tail 1 f) ∷
-    span 0xED 0xED (tail_due after_eD 1 f) ∷ span 0xEE 0xEF (tail_due any_tail 1 f) ∷
+    span 0xED 0xED (tail_due after_ed 1 f) ∷ span 0xEE 0xEF (tail_due any_tail 1 f) ∷
     span 0xF0 0xF0 (tail_due after_f0 2 f) ∷ span 0xF1 0xF3 (tail_due any_tail 2 f) ∷ span 0xF4 0xF4 (tail_due after_f4 2 f) ∷ []
 rules (escaping f) o =
     one 0x22 (in_string f) ∷ one 0x5C (in_string f) ∷ one 0x2F (in_string f) ∷ one 0x62 (in_string f) ∷

@@ -128,9 +128,9 @@ module _ (x y z w : Hex) where
 
   -- two of them, which are a pair where the first is a high half and the second a low one
   module _ (x' y' z' w' : Hex) (cs : List Char) where
-    second_low_lem : low_at_of (put_chars (G.unicode x' y' z' w' ∷ cs) []) ≡ is_low (hex_number x' y' z' w')
+    second_low : low_at_of (put_chars (G.unicode x' y' z' w' ∷ cs) []) ≡ is_low (hex_number x' y' z' w')
     unfolding put_chars put_char low_at_of unit_at
-    second_low_lem = ap is_low (hex_number_lem x' y' z' w')
+    second_low = ap is_low (hex_number_lem x' y' z' w')
 
     unicode_second : Decodes cs → Decodes (G.unicode x' y' z' w' ∷ cs) → Decodes (G.unicode x y z w ∷ G.unicode x' y' z' w' ∷ cs)
     unfolding put_chars put_char units_of unit_of utf8s
@@ -146,7 +146,7 @@ module _ (x y z w : Hex) where
             ∙ sym (ap utf8s (join_pair (hex_number x y z w) (hex_number x' y' z' w') (units_of cs) p q))
         by true p false q =
             unicode_first (G.unicode x' y' z' w' ∷ cs)
-            (record { bytes = second_low_lem ∙ q; numbers = join_before (hex_number x y z w) (hex_number x' y' z' w') (units_of cs) q }) e'
+            (record { bytes = second_low ∙ q; numbers = join_before (hex_number x y z w) (hex_number x' y' z' w') (units_of cs) q }) e'
         by false p l q =
             unicode_alone (G.unicode x' y' z' w' ∷ cs)
             (not_high (hex_byte x) (hex_byte y) (hex_byte z) (hex_byte w) (put_chars (G.unicode x' y' z' w' ∷ cs) []) (ap is_high (hex_number_lem x y z w) ∙ p))

@@ -7,7 +7,7 @@ use Rattle.encoding.specs.Utf8Steps as U
 use Rattle.encoding.specs.Utf8Steps.{Due, row_at}
 use Rattle.json_text.specs.Room.{Room}
 use Rattle.json_text.specs.Machine.{Ctl, in_string, escaping, tail_due, Stack, at, step}
-use Rattle.encoding.specs.Utf8.{any_tail, after_e0, after_eD, after_f0, after_f4}
+use Rattle.encoding.specs.Utf8.{any_tail, after_e0, after_ed, after_f0, after_f4}
 use Rattle.json_text.specs.Led.{Led}
 
 -- what is due of a code point from 80 (hexadecimal) on, inside a string
@@ -15,10 +15,10 @@ abbrev pub tails : Due → Bool → Ctl
 tails U.one f = tail_due any_tail 0 f
 tails U.two f = tail_due any_tail 1 f
 tails U.three f = tail_due any_tail 2 f
-tails U.after_e0_lem f = tail_due after_e0 1 f
-tails U.after_ed f = tail_due after_eD 1 f
-tails U.after_f0_lem f = tail_due after_f0 2 f
-tails U.after_f4_lem f = tail_due after_f4 2 f
+tails U.due_e0 f = tail_due after_e0 1 f
+tails U.due_ed f = tail_due after_ed 1 f
+tails U.due_f0 f = tail_due after_f0 2 f
+tails U.due_f4 f = tail_due after_f4 2 f
 
 -- where a reader of a string stands: between two characters, after a backslash, or inside a code point from 80 (hexadecimal) on
 pub data Stand : Type 0 where
@@ -35,10 +35,10 @@ abbrev pub state_of : Stand → ℕ
 state_of (point U.one) = 6
 state_of (point U.two) = 12
 state_of (point U.three) = 18
-state_of (point U.after_e0_lem) = 24
-state_of (point U.after_ed) = 30
-state_of (point U.after_f0_lem) = 36
-state_of (point U.after_f4_lem) = 42
+state_of (point U.due_e0) = 24
+state_of (point U.due_ed) = 30
+state_of (point U.due_f0) = 36
+state_of (point U.due_f4) = 42
 state_of escape = 48
 state_of between = 57
 
@@ -100,7 +100,7 @@ after_second_of n = elim (eqb n 4) [ true ↦ point U.two | false ↦ elim (eqb 
 
 -- a row of UTF-8: the first byte leads to a stand, and the second byte on from there
 abbrev pub row_moves : Row → Stand → List Move
-row_moves r p = move r.low r.high between p ∷ move r.second_low_lem r.second_high_lem p (after_second_of r.bytes) ∷ []
+row_moves r p = move r.low r.high between p ∷ move r.second_low r.second_high p (after_second_of r.bytes) ∷ []
 
 pub record RowAdded (n state : ℕ) (t t' : List ℕ) : Type 0 where
   pub long : length t' ≡ 256
@@ -110,13 +110,13 @@ unfoldable pub point_moves : List Move
 unfolding rows
 point_moves =
     row_moves (row_at rows 1) (point U.one)
-    ++ row_moves (row_at rows 2) (point U.after_e0_lem)
+    ++ row_moves (row_at rows 2) (point U.due_e0)
     ++ row_moves (row_at rows 3) (point U.two)
-    ++ row_moves (row_at rows 4) (point U.after_ed)
+    ++ row_moves (row_at rows 4) (point U.due_ed)
     ++ row_moves (row_at rows 5) (point U.two)
-    ++ row_moves (row_at rows 6) (point U.after_f0_lem)
+    ++ row_moves (row_at rows 6) (point U.due_f0)
     ++ row_moves (row_at rows 7) (point U.three)
-    ++ row_moves (row_at rows 8) (point U.after_f4_lem)
+    ++ row_moves (row_at rows 8) (point U.due_f4)
 
 -- the state after the byte b at the stand p: 0 for nowhere, or that of a stand to which the machine goes
 pub data Followed (p : Stand) (b : ℕ) : ℕ → Type 0 where

@@ -14,7 +14,7 @@ use Rattle.query.specs.Escapes.{HexChar, put_hex_char, hex_char_point}
 use Rattle.query.specs.Grammar as Q
 use Rattle.query.specs.Grammar.{single, Inner, quoted, position, bracketed, plain, Query, put_inner, put_deep, put_segment, put_spaced, put_query}
 use Rattle.query.specs.Grammar.{quoted_points, inner_selector, segment_step, steps_of}
-use Rattle.query.specs.Says.{steps_in_text}
+use Rattle.query.proofs.Says.{steps_in_text}
 use Rattle.query.specs.Steps as S
 use Rattle.query.specs.Steps.{Step}
 use Rattle.query.specs.Verdict.{steps_in}

@@ -6,7 +6,7 @@ use Rattle.encoding.specs.Bytes.{In, put_in}
 use Rattle.encoding.specs.BytesLaws.{from_low, to_high}
 use Rattle.encoding.specs.Decimal.{read_on}
 use Rattle.query.specs.Grammar.{Position, zero, digits, put_position, position_of}
-use Rattle.query.specs.Positions.{one_digit, digit_more}
+use Rattle.query.proofs.Positions.{one_digit, digit_more}
 use Rattle.text.specs.Decimal.{digit, decimal}
 use Rattle.text.specs.DecimalLaws.{by_digits, decimal_small, decimal_more}
 

@@ -1,6 +1,6 @@
 -- The query grammar as a machine that takes one byte at a time: from each control state, the bytes that lead on, and where to.
 use Rattle.std.specs.Prelude.{List, [], ◌∷◌, Bool, true, false, ◌&&◌, ℕ, zero, suc, ◌+◌, ◌*◌, leb}
-use Rattle.encoding.specs.Utf8.{Second, any_tail, after_e0, after_eD, after_f0, after_f4, second_low, second_high}
+use Rattle.encoding.specs.Utf8.{Second, any_tail, after_e0, after_ed, after_f0, after_f4, second_low, second_high}
 use Rattle.query.specs.Grammar.{Quote, single, double, quote_byte, before_quote, after_quote, max_position, Depth, plain, deep}
 
 -- which name is being read: a shorthand one, or one in quotes
@@ -55,7 +55,7 @@ wide_rules h rs =
     range 0xC2 0xDF (tail_due any_tail 0 h) ∷
     range 0xE0 0xE0 (tail_due after_e0 1 h) ∷
     range 0xE1 0xEC (tail_due any_tail 1 h) ∷
-    range 0xED 0xED (tail_due after_eD 1 h) ∷
+    range 0xED 0xED (tail_due after_ed 1 h) ∷
     range 0xEE 0xEF (tail_due any_tail 1 h) ∷
     range 0xF0 0xF0 (tail_due after_f0 2 h) ∷
     range 0xF1 0xF3 (tail_due any_tail 2 h) ∷

@@ -14,7 +14,7 @@ use Rattle.query.specs.Grammar as G
 use Rattle.query.specs.Grammar.{Quote, quote_byte, put_char}
 use Rattle.query.specs.Machine as M
 use Rattle.query.specs.Machine.{Due, in_escape, kind, low_backslash, low_u, low_d, dead, only, rules, step}
-use Rattle.query.specs.At.{byte_is, end_at, stop_at, bad_at}
+use Rattle.query.proofs.At.{byte_is, end_at, stop_at, bad_at}
 use Rattle.query_escapes.specs.Scans.{Escaped, Part, BehindU}
 use Rattle.query_escapes.specs.ScansLaws.{stayed, went_on, passed_on}
 use Rattle.query_escapes.proofs.Digits.{end, ◌&◌, no_rule, Leads}

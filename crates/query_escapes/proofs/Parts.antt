@@ -13,7 +13,7 @@ use Rattle.query.specs.Grammar.{Quote}
 use Rattle.query.specs.Machine as M
 use Rattle.query.specs.Machine.{Control, Due, in_escape, step, final}
 use Rattle.query.specs.Read.{bad, reading}
-use Rattle.query.specs.At.{end_at, stop_at, bad_at}
+use Rattle.query.proofs.At.{end_at, stop_at, bad_at}
 use Rattle.query_escapes.specs.Scans.{Part}
 use Rattle.query_escapes.specs.ScansLaws.{stayed, went_on, passed_on}
 use Rattle.query_escapes.proofs.Digits.{Leads, leads_within}

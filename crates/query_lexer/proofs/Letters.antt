@@ -9,8 +9,8 @@ use lib.ListN.{length, drop}
 use lib.Seq.{slice, length-slice}
 use Rattle.query.specs.Machine.{Control}
 use Rattle.query.specs.Read.{bad, reading}
-use Rattle.query.specs.Spell.{spell, spell_bad, Spells}
-use Rattle.query.specs.At.{written_slice}
+use Rattle.query.proofs.Spell.{spell, spell_bad, Spells}
+use Rattle.query.proofs.At.{written_slice}
 use Rattle.query_lexer.specs.Scans.{spelt}
 
 -- letters, and a dead byte behind them

@@ -21,9 +21,9 @@ use Rattle.query.specs.Append.{append_chars, append-short, laters_more, chars_mo
 use Rattle.query.specs.Machine as M
 use Rattle.query.specs.Machine.{Control, done, inside, short, quoted, in_escape, kind, dead, Rule, range, first_rules, begin_rules, dot_rule, pick, step}
 use Rattle.query.specs.Read.{reading}
-use Rattle.query.specs.Spell.{spell, spells_chars, alike}
-use Rattle.query.specs.Text.{spells_shorthand}
-use Rattle.query.specs.At.{byte_is, end_at, stop_at, bad_at}
+use Rattle.query.proofs.Spell.{spell, spells_chars, alike}
+use Rattle.query.proofs.Text.{spells_shorthand}
+use Rattle.query.proofs.At.{byte_is, end_at, stop_at, bad_at}
 use Rattle.query.specs.MachineLaws.{miss, miss_only, landing, leads, all_parted, passes}
 use Rattle.query_escapes.specs.Scans.{Moved, Escaped}
 use Rattle.query_escapes.specs.ScansLaws.{stayed, went_on, passed_on}

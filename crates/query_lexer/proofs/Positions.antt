@@ -11,8 +11,8 @@ use Rattle.query.specs.Grammar.{Position, put_position, position_of, max_positio
 use Rattle.query.specs.Machine.{opened, in_position}
 use Rattle.query.specs.Read.{reading}
 use Rattle.query.specs.Append.{append_position}
-use Rattle.query.specs.Positions.{NoMore, reads_position, one_digit, digit_more, behind_at}
-use Rattle.query.specs.Spell.{moved}
+use Rattle.query.proofs.Positions.{NoMore, reads_position, one_digit, digit_more, behind_at}
+use Rattle.query.proofs.Spell.{moved}
 use Rattle.query_lexer.specs.Scans.{IsDigit, LeadsOn, more, none, PositionAt}
 
 -- digits from n up to i, which stand for v

@@ -9,7 +9,7 @@ use native.Mathlib.Omega.{arith}
 use lib.Dec.{T}
 use lib.ListN.{length, get_or, drop}
 use Rattle.encoding.specs.BytesLaws as L
-use Rattle.encoding.specs.Utf8.{any_tail, after_e0, after_eD, after_f0, after_f4}
+use Rattle.encoding.specs.Utf8.{any_tail, after_e0, after_ed, after_f0, after_f4}
 use Rattle.encoding.specs.Utf8At as A
 use Rattle.encoding.specs.Utf8At.{RestAt, ReadsAt}
 use Rattle.encoding.specs.Utf8Steps as U
@@ -19,7 +19,7 @@ use Rattle.query.specs.Machine.{Home, Control, inside, tail_due, dead, Rule, ran
 use Rattle.query.specs.Machine.{wide_rules, rules, pick, step, final}
 use Rattle.query.specs.Grammar as G
 use Rattle.query.specs.Read.{bad, reading}
-use Rattle.query.specs.At.{end_at, stop_at, bad_at}
+use Rattle.query.proofs.At.{end_at, stop_at, bad_at}
 use Rattle.query.specs.MachineLaws.{hit, miss, landing, leads, all_under, dies_above}
 
 -- the control state in which these bytes are due
@@ -27,10 +27,10 @@ abbrev due_in : Due → Home → Control
 due_in U.one h = tail_due any_tail 0 h
 due_in U.two h = tail_due any_tail 1 h
 due_in U.three h = tail_due any_tail 2 h
-due_in U.after_e0_lem h = tail_due after_e0 1 h
-due_in U.after_ed h = tail_due after_eD 1 h
-due_in U.after_f0_lem h = tail_due after_f0 2 h
-due_in U.after_f4_lem h = tail_due after_f4 2 h
+due_in U.due_e0 h = tail_due after_e0 1 h
+due_in U.due_ed h = tail_due after_ed 1 h
+due_in U.due_f0 h = tail_due after_f0 2 h
+due_in U.due_f4 h = tail_due after_f4 2 h
 
 -- one rule, from lo to hi
 module _ (lo hi : ℕ) (c : Control) (b : ℕ) where
@@ -50,20 +50,20 @@ unfolding step
 due_under U.one h b l = only_under 0x80 0xBF _ b l
 due_under U.two h b l = only_under 0x80 0xBF _ b l
 due_under U.three h b l = only_under 0x80 0xBF _ b l
-due_under U.after_e0_lem h b l = only_under 0xA0 0xBF _ b l
-due_under U.after_ed h b l = only_under 0x80 0x9F _ b l
-due_under U.after_f0_lem h b l = only_under 0x90 0xBF _ b l
-due_under U.after_f4_lem h b l = only_under 0x80 0x8F _ b l
+due_under U.due_e0 h b l = only_under 0xA0 0xBF _ b l
+due_under U.due_ed h b l = only_under 0x80 0x9F _ b l
+due_under U.due_f0 h b l = only_under 0x90 0xBF _ b l
+due_under U.due_f4 h b l = only_under 0x80 0x8F _ b l
 
 due_over : (d : Due) (h : Home) (b : ℕ) → highest d < b → step (M.at (due_in d h)) b ≡ dead
 unfolding step
 due_over U.one h b l = only_over 0x80 0xBF _ b l
 due_over U.two h b l = only_over 0x80 0xBF _ b l
 due_over U.three h b l = only_over 0x80 0xBF _ b l
-due_over U.after_e0_lem h b l = only_over 0xA0 0xBF _ b l
-due_over U.after_ed h b l = only_over 0x80 0x9F _ b l
-due_over U.after_f0_lem h b l = only_over 0x90 0xBF _ b l
-due_over U.after_f4_lem h b l = only_over 0x80 0x8F _ b l
+due_over U.due_e0 h b l = only_over 0xA0 0xBF _ b l
+due_over U.due_ed h b l = only_over 0x80 0x9F _ b l
+due_over U.due_f0 h b l = only_over 0x90 0xBF _ b l
+due_over U.due_f4 h b l = only_over 0x80 0x8F _ b l
 
 due_next : {d e : Due} → Next d e → (h : Home) (b : ℕ) → lowest d ≤ b → b ≤ highest d → step (M.at (due_in d h)) b ≡ M.at (due_in e h)
 unfolding step
@@ -78,10 +78,10 @@ not_final : (d : Due) (h : Home) → final (due_in d h) ≡ false
 not_final U.one h = refl
 not_final U.two h = refl
 not_final U.three h = refl
-not_final U.after_e0_lem h = refl
-not_final U.after_ed h = refl
-not_final U.after_f0_lem h = refl
-not_final U.after_f4_lem h = refl
+not_final U.due_e0 h = refl
+not_final U.due_ed h = refl
+not_final U.due_f0 h = refl
+not_final U.due_f4 h = refl
 
 -- what is due is not there: the wrong byte is dead
 rest_dead : (q : List ℕ) (h : Home) {d : Due} {i : ℕ} {ok : Bool} {r : ℕ} → RestAt q d i ok r → ok ≡ false → reading (due_in d h) i (drop i q) ≡ bad r
@@ -106,7 +106,7 @@ module _ (c : Control) (h : Home) (rs : List Rule) (e : rules c ≡ wide_rules h
   first_leads (U.in_c2_df l u) = begin l u (tail_due any_tail 0 h) refl
   first_leads (U.in_e0 l u) = begin l u (tail_due after_e0 1 h) refl
   first_leads (U.in_e1_ec l u) = begin l u (tail_due any_tail 1 h) refl
-  first_leads (U.in_ed l u) = begin l u (tail_due after_eD 1 h) refl
+  first_leads (U.in_ed l u) = begin l u (tail_due after_ed 1 h) refl
   first_leads (U.in_ee_ef l u) = begin l u (tail_due any_tail 1 h) refl
   first_leads (U.in_f0 l u) = begin l u (tail_due after_f0 2 h) refl
   first_leads (U.in_f1_f3 l u) = begin l u (tail_due any_tail 2 h) refl

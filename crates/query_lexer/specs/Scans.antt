@@ -6,8 +6,8 @@ use Rattle.query.specs.Grammar.{First, Later, Char, Quote, quote_byte, Depth, pl
 use Rattle.query.specs.Grammar.{Position, put_position, position_of, max_position}
 use Rattle.query.specs.Machine.{Control, dotted, opened, closing, inside, short, quoted, done}
 use Rattle.query.specs.Read.{position, Reading, bad, note, reading}
-use Rattle.query.specs.Positions.{NoMore}
-use Rattle.query.specs.Spell.{spell}
+use Rattle.query.proofs.Positions.{NoMore}
+use Rattle.query.proofs.Spell.{spell}
 use Rattle.query_escapes.specs.Scans.{Moved}
 
 -- whether a byte is a blank

@@ -22,11 +22,11 @@ use Rattle.encoding.specs.Verdict.{Verdict, refused}
 use Rattle.query.specs.Steps.{Step}
 use Rattle.query.specs.Machine.{root, done, place, start}
 use Rattle.query.specs.Read.{Placed, named, Reading, good, bad, reading, steps_read}
-use Rattle.query.specs.Ended.{Ended, clean, cut, ended}
+use Rattle.query.proofs.Ended.{Ended, clean, cut, ended}
 use Rattle.query_steps.specs.Reader.{read_place, placed_at, Bounded, push, StepTaken, StepAt}
 use Rattle.query.specs.Verdict.{max_query_bytes, max_steps, decoded_step, steps_in, place_of, judged, overlong, query_verdict}
-use Rattle.query.specs.Says.{short_enough, too_long, early, late, few, too_many}
-use Rattle.query.specs.LongLaws.{overlong-take}
+use Rattle.query.proofs.Says.{short_enough, too_long, early, late, few, too_many}
+use Rattle.query.proofs.LongLaws.{overlong-take}
 use Rattle.query_parser.specs.Compiles.{HeldTo, Stands, Decodes, Adds}
 use Rattle.query_parser.specs.Holds.{Holds, no_steps_of}
 use Rattle.query_parser.specs.Answer.{refusal, refusal_by, rest_of, overflow, StepsFor, QueryRead}

@@ -16,8 +16,8 @@ use Rattle.query.specs.Machine as M
 use Rattle.query.specs.Machine.{root, done, dead, pick, step, place, start}
 use Rattle.query.specs.MachineLaws.{miss_only}
 use Rattle.query.specs.Read.{Placed, named, Reading, good, bad, reading}
-use Rattle.query.specs.At.{end_at, stop_at, kept_at}
-use Rattle.query.specs.Place.{place_bad, place_good}
+use Rattle.query.proofs.At.{end_at, stop_at, kept_at}
+use Rattle.query.proofs.Place.{place_bad, place_good}
 use Rattle.query_steps.specs.Reader
 use Rattle.query_steps.specs.Reader.{read_place, placed_at, push, StepTaken, StepAt}
 use Rattle.query_parser.specs.Answer.{refusal, rest_of, overflow}

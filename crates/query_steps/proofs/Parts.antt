@@ -28,13 +28,13 @@ use Rattle.query.specs.Read as R
 use Rattle.query.specs.Read.{begin, deepen, Reading, good, bad, note, reading}
 use Rattle.query.specs.Written.{segment_written}
 use Rattle.query.specs.MachineLaws.{miss_only}
-use Rattle.query.specs.Positions.{no_digit}
-use Rattle.query.specs.Spell.{spell, spell_named, spell_bad, done_gap, blank_gap, blank_opened, blank_closing}
-use Rattle.query.specs.Text.{shorthand_append, quote_opens, quote_closes}
-use Rattle.query.specs.Ended.{Ended, clean, cut, ended}
-use Rattle.query.specs.At.{byte_is, written_slice, end_at, stop_at, turn_at, kept_at}
+use Rattle.query.proofs.Positions.{no_digit}
+use Rattle.query.proofs.Spell.{spell, spell_named, spell_bad, done_gap, blank_gap, blank_opened, blank_closing}
+use Rattle.query.proofs.Text.{shorthand_append, quote_opens, quote_closes}
+use Rattle.query.proofs.Ended.{Ended, clean, cut, ended}
+use Rattle.query.proofs.At.{byte_is, written_slice, end_at, stop_at, turn_at, kept_at}
 use Rattle.query.specs.Append.{append_chars, append-spaced}
-use Rattle.query.specs.Place.{Tells, well, ill, tells, accepts_text, dead_place}
+use Rattle.query.proofs.Place.{Tells, well, ill, tells, accepts_text, dead_place}
 use Rattle.query_lexer.specs.Scans.{BlankIs, other, Skipped, spelt, deeper_byte, ShortName, QuotedName, PositionAt}
 use Rattle.query_steps.specs.Reader
 use Rattle.query_steps.specs.Reader.{depth_of, selector_at, Bounded, choose, push, Closed, Begun, SegmentAt, PartRead, StepAt}

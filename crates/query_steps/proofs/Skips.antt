@@ -8,7 +8,7 @@ use lib.ListN.{length, drop, length-drop}
 use Rattle.encoding.specs.Bytes.{Blank, Blanks, blank_byte, put_blanks}
 use Rattle.query.specs.Machine.{Control, at, step}
 use Rattle.query.specs.Read.{keep, event, reading}
-use Rattle.query.specs.Spell.{moved, reads_blanks}
+use Rattle.query.proofs.Spell.{moved, reads_blanks}
 use Rattle.encoding.specs.BytesLaws.{length_blanks}
 use Rattle.query_lexer.specs.Scans.{Skipped}
 

@@ -20,7 +20,7 @@ use Rattle.query.specs.Steps.{Selector}
 use Rattle.query.specs.Machine.{done, run, accept, start}
 use Rattle.query.specs.Read.{Placed, Reading, good, bad, reading, steps_read}
 use Rattle.query.specs.Verdict.{decoded}
-use Rattle.query.specs.Place.{accepts_text}
+use Rattle.query.proofs.Place.{accepts_text}
 use Rattle.query_steps.specs.declared.Found.{Found}
 use Rattle.query_steps.specs.declared.StepRead.{StepRead}
 use Rattle.query_steps.specs.declared.StepRead.TheVariants.{Refused}

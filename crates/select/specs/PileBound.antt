@@ -10,7 +10,7 @@ pub record PlainThenDeep (q : List Step) : Type 0 where
   pub deep : List Step
   pub parts : q ≡ plain ++ deep
   pub all_plain : AllSteps false plain
-  pub all_deep_lem : AllSteps true deep
+  pub all_deep : AllSteps true deep
   pub some_deep : 0 < length deep
 
 -- a plain step stands behind a deep one; of such queries the request says nothing

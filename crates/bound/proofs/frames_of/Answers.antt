@@ -7,7 +7,7 @@ use native.Mathlib.Omega.{arith}
 use borrow.Author.Tests.{not-true, not-false}
 use lib.ListN.{length}
 use Rattle.query.specs.Steps.{Step}
-use Rattle.select.specs.PileBoundPassed.{Passed, passed_none, passed_step, passed_mixed, passed_all_plain, passed_all_deep}
+use Rattle.select.proofs.PileBoundPassed.{Passed, passed_none, passed_step, passed_mixed, passed_all_plain, passed_all_deep}
 use Rattle.bound.proofs.frames_of.Goals as goal
 
 -- all steps are passed

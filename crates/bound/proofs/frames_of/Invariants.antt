@@ -5,7 +5,7 @@ use mathlib.Core.List.{List}
 use mathlib.Core.Path.{◌≡◌}
 use Prim.Native.Nat.{◌-◌, ◌≤◌, ◌<◌}
 use Rattle.query.specs.Steps.{Step}
-use Rattle.select.specs.PileBoundPassed.{Passed}
+use Rattle.select.proofs.PileBoundPassed.{Passed}
 use Rattle.bound.specs.Told.{DeepSteps}
 use Rattle.bound.proofs.frames_of.Given as goal
 

@@ -1,6 +1,6 @@
 -- `moves::add_escapes` meets its contract: letter by letter. Assumes nothing.
 use Rattle.moves.specs.Moves.{escape_moves}
-use Rattle.moves.specs.MoveLaws.{added_one, added_then}
+use Rattle.moves.proofs.MoveLaws.{added_one, added_then}
 use Rattle.moves.proofs.add_escapes.Goals as goal
 
 pub returns : goal.returns

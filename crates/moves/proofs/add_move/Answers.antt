@@ -1,5 +1,5 @@
 use Prim.Native.Nat.{◌-◌}
-use Rattle.moves.specs.MoveLaws.{adding_start, adding_more, adding_done}
+use Rattle.moves.proofs.MoveLaws.{adding_start, adding_more, adding_done}
 use borrow.Author.Rules.{rules}
 use Rattle.moves.proofs.add_move.Goals as goal
 

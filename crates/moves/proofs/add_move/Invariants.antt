@@ -1,7 +1,7 @@
 -- `moves::add_move` meets its contract. The loop's invariant: the move has been added to the bytes before `b`. The measure is how
 -- many are left. Assumes nothing.
 use Prim.Native.Nat.{◌-◌}
-use Rattle.moves.specs.MoveLaws.{Adding}
+use Rattle.moves.proofs.MoveLaws.{Adding}
 use Rattle.moves.proofs.add_move.Given as goal
 
 abbrev pub invariant-loop-b : goal.invariant-loop-b

@@ -1,6 +1,6 @@
 -- `moves::add_plain` meets its contract: move by move, the third up to the last byte of the first row. Assumes nothing.
 use Rattle.moves.specs.Moves.{plain_moves}
-use Rattle.moves.specs.MoveLaws.{added_one, added_then}
+use Rattle.moves.proofs.MoveLaws.{added_one, added_then}
 use Rattle.moves.proofs.add_plain.Goals as goal
 
 pub returns : goal.returns

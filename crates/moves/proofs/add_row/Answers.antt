@@ -1,5 +1,5 @@
 -- `moves::add_row` meets its contract: a move of the row's first bytes and one of its second. Assumes nothing.
-use Rattle.moves.specs.MoveLaws.{row_added}
+use Rattle.moves.proofs.MoveLaws.{row_added}
 use Rattle.moves.proofs.add_row.Goals as goal
 
 pub returns : goal.returns

@@ -1,5 +1,5 @@
 -- `moves::after_second` meets its contract: of four bytes two are due, of three one, and of two none. Assumes nothing.
-use Rattle.moves.specs.MoveLaws.{second_last, second_same}
+use Rattle.moves.proofs.MoveLaws.{second_last, second_same}
 use Rattle.moves.proofs.after_second.Goals as goal
 
 pub returns-then-bytes-eq4 : goal.returns-then-bytes-eq4

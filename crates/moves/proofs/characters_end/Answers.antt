@@ -1,7 +1,7 @@
 use mathlib.Core.Bool.{true}
 use Prim.Native.Nat.{◌-◌}
 use native.Mathlib.Omega.{arith}
-use Rattle.moves.specs.MoveLaws.{reader_start, passes_four, characters_none, characters_then}
+use Rattle.moves.proofs.MoveLaws.{reader_start, passes_four, characters_none, characters_then}
 use Rattle.moves.proofs.characters_end.Goals as goal
 
 pub returns-then-s-lt-LONG : goal.returns-then-s-lt-LONG

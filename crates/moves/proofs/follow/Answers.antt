@@ -1,5 +1,5 @@
 -- `moves::follow` meets its contract: six bits of the byte's word. Assumes nothing.
-use Rattle.moves.specs.MoveLaws.{leads_follows}
+use Rattle.moves.proofs.MoveLaws.{leads_follows}
 use borrow.Author.Rules.{rules}
 use Rattle.moves.proofs.follow.Goals as goal
 

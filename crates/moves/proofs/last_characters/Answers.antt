@@ -1,5 +1,5 @@
 use Prim.Native.Nat.{◌-◌}
-use Rattle.moves.specs.MoveLaws.{reader_start}
+use Rattle.moves.proofs.MoveLaws.{reader_start}
 use Rattle.moves.proofs.last_characters.Goals as goal
 
 pub loop-i-init : goal.loop-i-init

@@ -1,5 +1,5 @@
 -- `moves::moves` meets its contract: a table without moves, or with all. Assumes nothing.
-use Rattle.moves.specs.MoveLaws.{all_moves, added_then, leads_all, leads_nowhere}
+use Rattle.moves.proofs.MoveLaws.{all_moves, added_then, leads_all, leads_nowhere}
 use Rattle.moves.proofs.moves.Goals as goal
 
 pub returns-then-size-lt-LONG : goal.returns-then-size-lt-LONG

@@ -1,6 +1,6 @@
 -- `moves::pass` meets its contract: after the byte the reader is after a whole character, as only an odd state tells, or its end
 -- stays. Assumes nothing.
-use Rattle.moves.specs.MoveLaws.{passes_inside, passes_between}
+use Rattle.moves.proofs.MoveLaws.{passes_inside, passes_between}
 use Rattle.moves.proofs.pass.Goals as goal
 
 pub returns-then-state-eq1 : goal.returns-then-state-eq1

@@ -1,7 +1,7 @@
 -- `query_parser::too_long` meets its contract: the place of the dead byte decides between grounds 1 and 2. Assumes nothing.
 use mathlib.Core.Path.{sym, ap, ◌∙◌}
 use Rattle.query.specs.Verdict.{overlong}
-use Rattle.query.specs.Says.{early, late}
+use Rattle.query.proofs.Says.{early, late}
 use Rattle.query_parser.specs.Answer.{refusal_by}
 use Rattle.query_parser.proofs.too_long.Goals as goal
 

@@ -15,8 +15,8 @@ use Rattle.query.specs.Machine.{rule_if, fits, digit_rules, more_digits, pick, s
 use Rattle.query.specs.Read.{Event, keep, position, event, Reading, good, bad, note, reading}
 use Rattle.query.specs.MachineLaws.{hit, miss_only, all_parted, passes, trims, Lives, every_pick}
 use Rattle.query.specs.Append.{digits_more}
-use Rattle.query.specs.Spell.{turn, stop, kept, moved}
-use Rattle.query.specs.At.{end_at}
+use Rattle.query.proofs.Spell.{turn, stop, kept, moved}
+use Rattle.query.proofs.At.{end_at}
 
 -- the test of the maximum
 

@@ -12,7 +12,7 @@ use Rattle.select.specs.Nodes.{IsChild, IsContainer, holds, root}
 use Rattle.select.specs.Children.{first_or_rest}
 use Rattle.select.specs.Marks.{Frames, Peak}
 use Rattle.select.specs.Marks as M
-use Rattle.select.specs.PeakIs.{frames_container}
+use Rattle.select.proofs.PeakIs.{frames_container}
 
 -- a node has at most so many levels
 abbrev AtMost : ℕ → Node → Type 0

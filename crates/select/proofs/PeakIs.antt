@@ -18,7 +18,7 @@ use Rattle.select.specs.Marks as M
 use Rattle.select.specs.Visits.{Visit, Way, nodes}
 use Rattle.select.specs.Ways.{same_marks, frame_if, frames, container_frames, most_frames, peak}
 use Rattle.select.specs.Reach.{Reach, start, down, nodes_are}
-use Rattle.select.specs.MarksAre.{same_marks_is}
+use Rattle.select.proofs.MarksAre.{same_marks_is}
 
 -- only a container has children
 value_container : {c : Child} (v : Value) (a : ℕ) → Memᴰ c (value_children v a) → IsContainer (record { value = v; first = a })

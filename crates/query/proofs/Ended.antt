@@ -8,8 +8,8 @@ use Rattle.query.specs.Machine.{Control, root, done, gap, opened, closing, in_po
 use Rattle.query.specs.Machine.{State, dead, begin_rules, step, final}
 use Rattle.query.specs.Read.{begin, Placed, named, Reading, good, bad, note, reading}
 use Rattle.query.specs.MachineLaws.{Lives, every_pick}
-use Rattle.query.specs.Spell as P
-use Rattle.query.specs.Spell.{done_gap}
+use Rattle.query.proofs.Spell as P
+use Rattle.query.proofs.Spell.{done_gap}
 
 -- a reading that says nothing of the step before it
 pub data Ended : Reading → Type 0 where

@@ -52,7 +52,7 @@ row_added {n} {low} {high} {least} {most} {bytes} {state} {second} {t} {t'} {t''
       leads_to_lem = λ p e.
           added_then
           (added_one (move (row_at rows n).low (row_at rows n).high between p) (rw (r.low_is, r.high_is, e) at x))
-          (added_one (move (row_at rows n).second_low_lem (row_at rows n).second_high_lem p (after_second_of (row_at rows n).bytes))
+          (added_one (move (row_at rows n).second_low (row_at rows n).second_high p (after_second_of (row_at rows n).bytes))
           (rw (r.least_is, r.most_is, q ∙ sym (second_same r.bytes_are), e) at y));
     }
 
@@ -110,7 +110,7 @@ leads_to (m ∷ ms) p b r =
 
 -- the stands by their states
 stands : List Stand
-stands = point U.one ∷ point U.two ∷ point U.three ∷ point U.after_e0_lem ∷ point U.after_ed ∷ point U.after_f0_lem ∷ point U.after_f4_lem ∷ escape ∷ between ∷ []
+stands = point U.one ∷ point U.two ∷ point U.three ∷ point U.due_e0 ∷ point U.due_ed ∷ point U.due_f0 ∷ point U.due_f4 ∷ escape ∷ between ∷ []
 
 stand_at : ℕ → Stand
 stand_at n = get_or stands n between
@@ -121,10 +121,10 @@ stand_is between = refl
 stand_is (point U.one) = refl
 stand_is (point U.two) = refl
 stand_is (point U.three) = refl
-stand_is (point U.after_e0_lem) = refl
-stand_is (point U.after_ed) = refl
-stand_is (point U.after_f0_lem) = refl
-stand_is (point U.after_f4_lem) = refl
+stand_is (point U.due_e0) = refl
+stand_is (point U.due_ed) = refl
+stand_is (point U.due_f0) = refl
+stand_is (point U.due_f4) = refl
 stand_is escape = refl
 
 same_stand : (p q : Stand) → state_of p ≡ state_of q → p ≡ q
@@ -135,10 +135,10 @@ stand_within between = omega arith
 stand_within (point U.one) = omega arith
 stand_within (point U.two) = omega arith
 stand_within (point U.three) = omega arith
-stand_within (point U.after_e0_lem) = omega arith
-stand_within (point U.after_ed) = omega arith
-stand_within (point U.after_f0_lem) = omega arith
-stand_within (point U.after_f4_lem) = omega arith
+stand_within (point U.due_e0) = omega arith
+stand_within (point U.due_ed) = omega arith
+stand_within (point U.due_f0) = omega arith
+stand_within (point U.due_f4) = omega arith
 stand_within escape = omega arith
 
 -- and the machine goes there
@@ -233,10 +233,10 @@ zero-state between = refl
 zero-state (point U.one) = refl
 zero-state (point U.two) = refl
 zero-state (point U.three) = refl
-zero-state (point U.after_e0_lem) = refl
-zero-state (point U.after_ed) = refl
-zero-state (point U.after_f0_lem) = refl
-zero-state (point U.after_f4_lem) = refl
+zero-state (point U.due_e0) = refl
+zero-state (point U.due_ed) = refl
+zero-state (point U.due_f0) = refl
+zero-state (point U.due_f4) = refl
 zero-state escape = refl
 
 pub leads_nowhere : Leads (replicate 256 0)
@@ -275,10 +275,10 @@ arrived_between (came escape l) e = absurd (omega arith)
 arrived_between (came (point U.one) l) e = absurd (omega arith)
 arrived_between (came (point U.two) l) e = absurd (omega arith)
 arrived_between (came (point U.three) l) e = absurd (omega arith)
-arrived_between (came (point U.after_e0_lem) l) e = absurd (omega arith)
-arrived_between (came (point U.after_ed) l) e = absurd (omega arith)
-arrived_between (came (point U.after_f0_lem) l) e = absurd (omega arith)
-arrived_between (came (point U.after_f4_lem) l) e = absurd (omega arith)
+arrived_between (came (point U.due_e0) l) e = absurd (omega arith)
+arrived_between (came (point U.due_ed) l) e = absurd (omega arith)
+arrived_between (came (point U.due_f0) l) e = absurd (omega arith)
+arrived_between (came (point U.due_f4) l) e = absurd (omega arith)
 
 pub characters_none : {s : List ℕ} {i : ℕ} → i ≤ length s → Characters s i i
 characters_none {s} {i} h = record { led = λ f. led_here s i (in_string f) h }

@@ -6,8 +6,8 @@ use Rattle.encoding.specs.Prefix.{Alive}
 use Rattle.json_text.specs.Room.{Room}
 use Rattle.json_text.specs.RoomLaws.{Texts}
 use Rattle.json_text.specs.Machine.{Ctl, Stack, State, dead, at, step, run, start}
-use Rattle.json_text.specs.Sound.{sound}
-use Rattle.json_text.specs.Complete.{complete, viable, dead_accepts}
+use Rattle.json_text.proofs.Sound.{sound}
+use Rattle.json_text.proofs.Complete.{complete, viable, dead_accepts}
 
 pub run-append : (st : State) (p u : List ℕ) → run st (p ++ u) ≡ run (run st p) u
 unfolding run

@@ -13,9 +13,9 @@ use Rattle.json_text.specs.Grammar.{Literal, Minus, Int, Char, Kind, Key, openin
 use Rattle.json_text.specs.Grammar.{put_literal, put_minus, put_int, put_frac, put_exp, put_string, put_key, put_value, put_items, put_more, text}
 use Rattle.json_text.specs.Append.{length-key, length_value, value_positive, length_more, more_positive}
 use Rattle.json_text.specs.Parse.{Got, Parser, got, fail, only, choose, pick, parse_by, parse_byte, parse_bytes, many, blank_of, digit_of}
-use Rattle.json_text.specs.ParseLaws.{on_got, all_apart, by_other, by_only, blanks_parsed, Solid, solid_in}
+use Rattle.json_text.proofs.ParseLaws.{on_got, all_apart, by_other, by_only, blanks_parsed, Solid, solid_in}
 use Rattle.json_text.specs.Parse.{parse_frac, parse_exp, parse_number}
-use Rattle.json_text.specs.ParseLaws.{NumberEnd, number_parsed, rest_parsed, key_parsed}
+use Rattle.json_text.proofs.ParseLaws.{NumberEnd, number_parsed, rest_parsed, key_parsed}
 use Rattle.json_text.specs.TreeOf.{Parsers, parse_item, parse_items, parse_more, parse_container, parse_value, parsers, parse_end, parse_tree}
 use Rattle.json_text.specs.TreeOf.{if_same, if_text, tree_of}
 

@@ -20,8 +20,8 @@ use Rattle.select.specs.Marks.{Peak, AllSteps, DeepPeak}
 use Rattle.select.specs.Visits.{Way, nodes}
 use Rattle.select.specs.Ways.{mark, same_marks, frame_if, frames, peak}
 use Rattle.select.specs.MarksStep.{mark_root_suc, mark_less, Origin, mark_origin}
-use Rattle.select.specs.MarksAre.{mark_below}
-use Rattle.select.specs.PeakIs.{most_bound, peak_is, peak_unique}
+use Rattle.select.proofs.MarksAre.{mark_below}
+use Rattle.select.proofs.PeakIs.{most_bound, peak_is, peak_unique}
 use Rattle.select.specs.PileBound.{PlainThenDeep, PileBound, deep, plain, mixed}
 
 abbrev one : Bool → ℕ
@@ -212,7 +212,7 @@ up_to (s ∷ p) d f g =
 -- of plain steps followed by one or more deep ones: at most one fewer than the steps
 pub plain_then_deep : (t : Tree) (q : List Step) (k : ℕ) → PlainThenDeep q → Peak t q k → k + 1 ≤ length q
 plain_then_deep t q k h x =
-    let kinds = subst (PlainUpTo (length h.plain)) (sym h.parts) (up_to h.plain h.deep h.all_plain h.all_deep_lem) in
+    let kinds = subst (PlainUpTo (length h.plain)) (sym h.parts) (up_to h.plain h.deep h.all_plain h.all_deep) in
     omega (arith, peak_bound t q k (length h.plain) kinds x, h.some_deep, ap length h.parts, length-append h.plain h.deep)
 
 -- of deep steps only: the same, or none for no step

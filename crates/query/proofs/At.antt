@@ -10,7 +10,7 @@ use Rattle.std.proofs.Math.Seq.{slice}
 use Rattle.encoding.specs.BytesLaws.{byte_at_lem}
 use Rattle.query.specs.Machine.{Control, dead, at, step, final}
 use Rattle.query.specs.Read.{keep, event, named, Reading, good, bad, note, reading}
-use Rattle.query.specs.Spell as S
+use Rattle.query.proofs.Spell as S
 
 -- what stands at a place
 

@@ -9,9 +9,9 @@ use Rattle.encoding.specs.Verdict.{Verdict, refused}
 use Rattle.json_text.specs.Grammar.{JsonText, Nested}
 use Rattle.json_text.specs.Room.{left, endless}
 use Rattle.json_text.specs.Machine.{value_due, State, dead, at, accept}
-use Rattle.json_text.specs.Sound.{sound}
-use Rattle.json_text.specs.Complete.{complete}
-use Rattle.json_text.specs.Beyond.{Along, along_start, along_nested, along_text, Goes, on, opens, dies, goes, none_opens, opens_early, opens_once}
+use Rattle.json_text.proofs.Sound.{sound}
+use Rattle.json_text.proofs.Complete.{complete}
+use Rattle.json_text.proofs.Beyond.{Along, along_start, along_nested, along_text, Goes, on, opens, dies, goes, none_opens, opens_early, opens_once}
 use Rattle.json_text.specs.Check.{ended, blame, check_from}
 use Rattle.json_text.specs.Verdict.{max_depth, max_bytes, text_verdict, record_verdict, RecordSays, taken, long, wrong, deep}
 

@@ -16,9 +16,9 @@ use Rattle.select.specs.Visits.{Way}
 use Rattle.select.specs.Ways.{hits, mark, same_marks, frame_if, frames, peak}
 use Rattle.select.specs.Reach.{Reach}
 use Rattle.select.specs.MarksStep.{step_hits, mark_root, mark_root_suc, mark-zero, mark-suc, mark_less, Origin, mark_origin}
-use Rattle.select.specs.MarksAre.{all_marks}
-use Rattle.select.specs.PeakIs.{way_frames, peak_is}
-use Rattle.select.specs.PeakBound.{step_kind}
+use Rattle.select.proofs.MarksAre.{all_marks}
+use Rattle.select.proofs.PeakIs.{way_frames, peak_is}
+use Rattle.select.proofs.PeakBound.{step_kind}
 
 -- a container costs a frame where some mark is not that of the container around it
 frames_differ : (q : List Step) (l : Label) (w : Way) → ((i : ℕ) → mark q i w ≡ mark q i (l ∷ w)) ⊎ (frames q (l ∷ w) ≡ suc (frames q w))

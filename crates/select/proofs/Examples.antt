@@ -7,7 +7,7 @@ use Rattle.query.specs.Steps.{Step, name, every, position}
 use Rattle.select.specs.Marks.{Peak}
 use Rattle.select.specs.Ways.{Span, spans, peak}
 use Rattle.select.specs.Nodelist.{nodelist}
-use Rattle.select.specs.PeakIs.{peak_is}
+use Rattle.select.proofs.PeakIs.{peak_is}
 
 -- ---- records
 

@@ -12,10 +12,10 @@ use Rattle.query.specs.Steps.{Step}
 use Rattle.query.specs.Machine.{root, place, start}
 use Rattle.query.specs.Read.{Placed, named, Reading, good, reading, steps_read}
 use Rattle.query.specs.Append.{append-spaced}
-use Rattle.query.specs.Text.{placed, reads_text}
+use Rattle.query.proofs.Text.{placed, reads_text}
 use Rattle.query.specs.NamesLaws.{written_decoded}
-use Rattle.query.specs.Sound.{sound}
-use Rattle.query.specs.Place.{Tells, well, ill, tells, accepts_text, dead_place}
+use Rattle.query.proofs.Sound.{sound}
+use Rattle.query.proofs.Place.{Tells, well, ill, tells, accepts_text, dead_place}
 use Rattle.query.specs.Verdict.{max_query_bytes, max_steps, decoded_step, steps_in, place_of, counted, judged, overlong, query_verdict}
 use Rattle.query.specs.Verdict.{QuerySays, taken, long, wrong, many}
 

@@ -24,7 +24,7 @@ use Rattle.query.specs.Machine.{in_position, inside, in_escape, tail_due, State,
 use Rattle.query.specs.Machine.{Rule, range, only, wide_rules, letter_rules, first_rules, step_rules, begin_rules, dot_rules, inner_rules, char_rules}
 use Rattle.query.specs.Machine.{hex_rules, escape_rules}
 use Rattle.query.specs.Machine.{rule_if, fits, digit_rules, more_digits, rules, takes, pick, step, run, final, accept, start}
-use Rattle.query.specs.Positions.{fits_within}
+use Rattle.query.proofs.Positions.{fits_within}
 
 -- what completes a query, by where the machine is
 
@@ -174,7 +174,7 @@ back_wide h L rs f r =
     e1_ec : Back L (range 0xE1 0xEC (tail_due any_tail 1 h))
     e1_ec b s (then y (then {s = u} z x)) = f (U.e1_ec b y z) u x
 
-    ed : Back L (range 0xED 0xED (tail_due U.after_eD 1 h))
+    ed : Back L (range 0xED 0xED (tail_due U.after_ed 1 h))
     ed b s (then y (then {s = u} z x)) = f (U.ed b y z) u x
 
     ee_ef : Back L (range 0xEE 0xEF (tail_due any_tail 1 h))

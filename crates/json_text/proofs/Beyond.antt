@@ -9,7 +9,7 @@ use Rattle.json_text.specs.Grammar.{JsonText, Nested}
 use Rattle.json_text.specs.Room.{Room, left, endless}
 use Rattle.json_text.specs.Machine.{Ctl, value_due, Stack, State, dead, at, step, run, start}
 use Rattle.json_text.specs.MachineLaws.{Freed, both_dead, alike, no_room, step_freed}
-use Rattle.json_text.specs.RunLaws.{run_more, alive_run, dead_run_alive}
+use Rattle.json_text.proofs.RunLaws.{run_more, alive_run, dead_run_alive}
 use Rattle.json_text.specs.Verdict.{OpensBeyond}
 
 -- the machine with room for n levels and the machine without a limit, over the bytes of s before place i

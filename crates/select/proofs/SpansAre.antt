@@ -17,7 +17,7 @@ use Rattle.select.specs.Visits.{Visit, Way, nodes}
 use Rattle.select.specs.Ways.{picks, Span, span_of, span_if, picked_spans, spans}
 use Rattle.select.specs.Reach.{nodes_are}
 use Rattle.select.specs.Order.{Rises, rises_lower, rises_earlier, firsts, nodes_rise, way_unique}
-use Rattle.select.specs.PickedIs.{picked_is}
+use Rattle.select.proofs.PickedIs.{picked_is}
 
 -- the first bytes of pairs
 abbrev pub first_bytes : List Span → List ℕ

@@ -11,7 +11,7 @@ use Rattle.encoding.specs.BytesLaws.{Then, then}
 use Rattle.encoding.specs.Hex as H
 use Rattle.encoding.specs.Hex.{Hex, hex_byte}
 use Rattle.encoding.specs.Utf8 as U
-use Rattle.encoding.specs.Utf8.{any_tail, after_e0, after_eD, after_f0, after_f4, second_low, second_high}
+use Rattle.encoding.specs.Utf8.{any_tail, after_e0, after_ed, after_f0, after_f4, second_low, second_high}
 use Rattle.encoding.specs.Utf8Laws.{Tails}
 use Rattle.json_text.specs.Grammar as G
 use Rattle.json_text.specs.Grammar.{Digit, Int, Frac, Exp, ExpSign, E, e_byte, Escape, escape_byte}
@@ -267,7 +267,7 @@ module _ {k : Stack} {ρ : Room} {f : Bool} where
   unfolding put_chars
   string_e1 b s (then y (then z (chars u cs a))) = chars u (G.wide (U.e1_ec b y z) ∷ cs) a
 
-  string_ed : (b : In 0xED 0xED) (s : List ℕ) → Rest (tail_due after_eD 1 f) k ρ s → StringRest k ρ f (b.byte ∷ s)
+  string_ed : (b : In 0xED 0xED) (s : List ℕ) → Rest (tail_due after_ed 1 f) k ρ s → StringRest k ρ f (b.byte ∷ s)
   unfolding put_chars
   string_ed b s (then y (then z (chars u cs a))) = chars u (G.wide (U.ed b y z) ∷ cs) a
 

@@ -84,7 +84,7 @@ plain_first {s} f (deep {k} h e) =
       deep = h.deep;
       parts = ap (λ (z : List Step). s ∷ z) h.parts;
       all_plain = one_more_step f h.all_plain;
-      all_deep_lem = h.all_deep_lem;
+      all_deep = h.all_deep;
       some_deep = h.some_deep;
     })
     (omega arith)
@@ -112,7 +112,7 @@ deep_first {s} {q} f = go (all_deep q) refl
           deep = s ∷ q;
           parts = refl;
           all_plain = no_steps;
-          all_deep_lem = one_more_step f (all_deep_is q e);
+          all_deep = one_more_step f (all_deep_is q e);
           some_deep = omega arith;
         })
         (add-one (length q))
@@ -183,7 +183,7 @@ pub pile_bound_only : {q : List Step} {o : Option ℕ} → PileBound q o → o �
 pile_bound_only {q} (deep h e) =
     sym
     (ap pile_bound h.parts
-    ∙ then_deep h.plain h.deep h.all_plain h.all_deep_lem h.some_deep (e ∙ ap length h.parts))
+    ∙ then_deep h.plain h.deep h.all_plain h.all_deep h.some_deep (e ∙ ap length h.parts))
 pile_bound_only {q} (plain h) = sym (only_plain q h)
 pile_bound_only {q} (mixed h) =
     sym

@@ -8,9 +8,9 @@ use Rattle.encoding.specs.PrefixLaws.{dead_place_unique}
 use Rattle.encoding.specs.Verdict.{refused}
 use Rattle.query.specs.Grammar.{QueryText}
 use Rattle.query.specs.Machine.{place, start}
-use Rattle.query.specs.Place.{dead_place}
+use Rattle.query.proofs.Place.{dead_place}
 use Rattle.query.specs.Verdict.{max_query_bytes, overlong, query_verdict}
-use Rattle.query.specs.Says.{short_enough, too_long, early, late}
+use Rattle.query.proofs.Says.{short_enough, too_long, early, late}
 use Rattle.query.specs.ByNumber.{EarlyFault, by_number}
 
 by_number_long : (s : List ℕ) → max_query_bytes < length s → by_number s ≡ refused 1 max_query_bytes

@@ -16,8 +16,8 @@ use Rattle.select.specs.Ways as W
 use Rattle.select.specs.Children.{child_visits, items_visits_are}
 use Rattle.select.specs.Reach.{ReachFrom, start, down, visit_reach, of_flat_map}
 use Rattle.select.specs.MarksStep.{step_hits, picks_step, Origin, mark_origin}
-use Rattle.select.specs.MarksAre.{frames_same}
-use Rattle.select.specs.PeakIs.{most_bound}
+use Rattle.select.proofs.MarksAre.{frames_same}
+use Rattle.select.proofs.PeakIs.{most_bound}
 
 -- the node at a way is dead: it has no mark
 abbrev pub NoMarks : List Step → Way → Type 0

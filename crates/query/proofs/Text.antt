@@ -14,9 +14,9 @@ use Rattle.query.specs.Machine as M
 use Rattle.query.specs.Machine.{short, quoted, root, done, gap, opened, closing, in_position, inside, at, step}
 use Rattle.query.specs.Read as R
 use Rattle.query.specs.Read.{begin, deepen, Placed, taking, named, Reading, good, note, reading}
-use Rattle.query.specs.Spell.{turn, moved, kept, alike, done_gap, spell, spell_named, Spells, spells_append, spells_first}
-use Rattle.query.specs.Spell.{spells_laters, spells_chars, reads_blanks, blank_gap, blank_opened, blank_closing}
-use Rattle.query.specs.Positions.{reads_behind, reads_position}
+use Rattle.query.proofs.Spell.{turn, moved, kept, alike, done_gap, spell, spell_named, Spells, spells_append, spells_first}
+use Rattle.query.proofs.Spell.{spells_laters, spells_chars, reads_blanks, blank_gap, blank_opened, blank_closing}
+use Rattle.query.proofs.Positions.{reads_behind, reads_position}
 use Rattle.query.specs.Append.{append-first, append_laters, append_chars, append-inner, append_dots, append-deep}
 
 -- steps with this one before them

@@ -21,7 +21,7 @@ use Rattle.select.specs.Ways.{picks_back, picks, mark, same_marks, frame_if, fra
 use Rattle.select.specs.Reach.{Reach, start, down, below_is}
 use Rattle.select.specs.Order.{way_unique}
 use Rattle.select.specs.HitsAre.{hits_is}
-use Rattle.select.specs.PickedIs.{picked_from}
+use Rattle.select.proofs.PickedIs.{picked_from}
 use Rattle.select.specs.MarksStep.{step_hits, mark_over, picks_step, picks_root}
 
 deep_is : (o : Option Step) → ((s : Step) × (o ≡ some s) × (s.deep ≡ true)) ↔ (is_deep o ≡ true)

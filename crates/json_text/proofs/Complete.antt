@@ -8,7 +8,7 @@ use Rattle.encoding.specs.Bytes.{In, put_in, Blank, Blanks, blank_byte, put_blan
 use Rattle.encoding.specs.Hex as H
 use Rattle.encoding.specs.Hex.{Hex, hex_byte}
 use Rattle.encoding.specs.Utf8 as U
-use Rattle.encoding.specs.Utf8.{Wide, put_wide, Second, any_tail, after_e0, after_eD, after_f0, after_f4, second_low}
+use Rattle.encoding.specs.Utf8.{Wide, put_wide, Second, any_tail, after_e0, after_ed, after_f0, after_f4, second_low}
 use Rattle.encoding.specs.Utf8Laws.{second_some}
 use Rattle.json_text.specs.Grammar as G
 use Rattle.json_text.specs.Grammar.{Digit, Int, Frac, Exp, ExpSign, E, e_byte, Escape, escape_byte, Char, Minus}
@@ -230,8 +230,8 @@ module _ (f : Bool) (k : Stack) (ρ : Room) (u : List ℕ) (h : Accepts (at (in_
       (range_on (tail_due after_e0 1 f) (tail_due any_tail 0 f) k ρ y _ refl (tail_on z))
   wide_on (U.e1_ec x y z) = range_on (in_string f) (tail_due any_tail 1 f) k ρ x _ refl (tails_on y z)
   wide_on (U.ed x y z) =
-      range_on (in_string f) (tail_due after_eD 1 f) k ρ x _ refl
-      (range_on (tail_due after_eD 1 f) (tail_due any_tail 0 f) k ρ y _ refl (tail_on z))
+      range_on (in_string f) (tail_due after_ed 1 f) k ρ x _ refl
+      (range_on (tail_due after_ed 1 f) (tail_due any_tail 0 f) k ρ y _ refl (tail_on z))
   wide_on (U.ee_ef x y z) = range_on (in_string f) (tail_due any_tail 1 f) k ρ x _ refl (tails_on y z)
   wide_on (U.f0 x y z w) =
       range_on (in_string f) (tail_due after_f0 2 f) k ρ x _ refl

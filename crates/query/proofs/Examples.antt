@@ -4,7 +4,7 @@ use Rattle.std.proofs.Common.{leb-true}
 use Rattle.encoding.specs.Verdict.{Verdict, taken, refused}
 use Rattle.query.specs.Steps.{Selector, name, every, position, Step}
 use Rattle.query.specs.Machine.{place}
-use Rattle.query.specs.Place.{dead_place}
+use Rattle.query.proofs.Place.{dead_place}
 use Rattle.query.specs.Verdict.{query_verdict, steps_in}
 use Rattle.query.specs.ByNumber.{EarlyFault, by_number}
 

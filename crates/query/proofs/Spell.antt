@@ -9,7 +9,7 @@ use Rattle.encoding.specs.Bytes.{In, Blank, Blanks, blank_byte, put_blanks}
 use Rattle.encoding.specs.Hex as H
 use Rattle.encoding.specs.Hex.{Hex, hex_byte}
 use Rattle.encoding.specs.Utf8 as U
-use Rattle.encoding.specs.Utf8.{Wide, Tail, put_wide, Second, any_tail, after_e0, after_eD, after_f0, after_f4, second_low, second_high}
+use Rattle.encoding.specs.Utf8.{Wide, Tail, put_wide, Second, any_tail, after_e0, after_ed, after_f0, after_f4, second_low, second_high}
 use Rattle.query.specs.Escapes as E
 use Rattle.query.specs.Escapes.{Escape, escape_byte, NotD, not_dByte, D, d_byte, EightToB, eight_to_bByte, CToF, c_to_fByte, HexChar, put_hex_char}
 use Rattle.query.specs.Grammar as G
@@ -107,7 +107,7 @@ module _ (c : Control) (h : Home) (rs : List Rule) (e : rules c ≡ wide_rules h
   spells_wide (U.c2_df x y) = spells_cons c _ _ _ _ (lead x (tail_due any_tail 0 h) refl) refl (spells_last any_tail h y)
   spells_wide (U.e0 x y z) = spells_cons c _ _ _ _ (lead x (tail_due after_e0 1 h) refl) refl (spells_last_two after_e0 h y z)
   spells_wide (U.e1_ec x y z) = spells_cons c _ _ _ _ (lead x (tail_due any_tail 1 h) refl) refl (spells_last_two any_tail h y z)
-  spells_wide (U.ed x y z) = spells_cons c _ _ _ _ (lead x (tail_due after_eD 1 h) refl) refl (spells_last_two after_eD h y z)
+  spells_wide (U.ed x y z) = spells_cons c _ _ _ _ (lead x (tail_due after_ed 1 h) refl) refl (spells_last_two after_ed h y z)
   spells_wide (U.ee_ef x y z) = spells_cons c _ _ _ _ (lead x (tail_due any_tail 1 h) refl) refl (spells_last_two any_tail h y z)
   spells_wide (U.f0 x y z w) = spells_cons c _ _ _ _ (lead x (tail_due after_f0 2 h) refl) refl (spells_last_three after_f0 h y z w)
   spells_wide (U.f1_f3 x y z w) = spells_cons c _ _ _ _ (lead x (tail_due any_tail 2 h) refl) refl (spells_last_three any_tail h y z w)

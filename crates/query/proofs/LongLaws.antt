@@ -6,7 +6,7 @@ use Rattle.std.proofs.Math.Nat.{zero-min, min-zero, suc-min-suc, min-eq_left, mi
 use Rattle.bits.specs.Laws.{lt_or_ge}
 use Rattle.query.specs.Machine.{Control, root, State, dead, at, step, place, start}
 use Rattle.query.specs.Verdict.{max_query_bytes, overlong, query_verdict}
-use Rattle.query.specs.Says.{too_long, late}
+use Rattle.query.proofs.Says.{too_long, late}
 
 -- the place in the first n bytes
 place-take : (c : Control) (n : ℕ) (s : List ℕ) → place (at c) (take n s) ≡ min n (place (at c) s)

@@ -3,7 +3,7 @@ use Rattle.std.specs.Prelude.{◌≡◌, refl, List, [], ◌∷◌, ◌++◌, Bo
 use Rattle.std.proofs.Common.{ap, sym, subst, ◌∙◌, le_of_suc-le-suc, arith}
 use Rattle.encoding.specs.Prefix.{Alive, DeadPlace}
 use Rattle.encoding.specs.PrefixLaws.{alive_text, dead_place_unique, dead_place_at}
-use Rattle.encoding.specs.Utf8.{any_tail, after_e0, after_eD, after_f0, after_f4}
+use Rattle.encoding.specs.Utf8.{any_tail, after_e0, after_ed, after_f0, after_f4}
 use Rattle.query.specs.Grammar as G
 use Rattle.query.specs.Grammar.{Quote, Query, QueryText, text}
 use Rattle.query.specs.Machine as M
@@ -11,8 +11,8 @@ use Rattle.query.specs.Machine.{Home, short, quoted, Due, kind, behind_d_of, dig
 use Rattle.query.specs.Machine.{Control, root, done, gap, opened, closing, in_position, inside, in_escape, tail_due}
 use Rattle.query.specs.Machine.{digits_due, high_digits_due, tails_due, State, dead, at, step, run, place, final, accept, start}
 use Rattle.query.specs.Read.{Event, Ahead, named, Reading, good, bad, note, event, reading}
-use Rattle.query.specs.Text.{reads_text}
-use Rattle.query.specs.Sound.{sound}
+use Rattle.query.proofs.Text.{reads_text}
+use Rattle.query.proofs.Sound.{sound}
 
 abbrev pub Accepts : State → List ℕ → Type 0
 Accepts st s = accept (run st s) ≡ true
@@ -109,7 +109,7 @@ viable (inside h) = complete_name h
 viable (in_escape d q) = complete_escape d q
 viable (tail_due any_tail n h) = let r = complete_tails n h in (0x80 ∷ r.0, r.1)
 viable (tail_due after_e0 n h) = let r = complete_tails n h in (0xA0 ∷ r.0, r.1)
-viable (tail_due after_eD n h) = let r = complete_tails n h in (0x80 ∷ r.0, r.1)
+viable (tail_due after_ed n h) = let r = complete_tails n h in (0x80 ∷ r.0, r.1)
 viable (tail_due after_f0 n h) = let r = complete_tails n h in (0x90 ∷ r.0, r.1)
 viable (tail_due after_f4 n h) = let r = complete_tails n h in (0x80 ∷ r.0, r.1)
 

@@ -1,0 +1,11 @@
+pub mod At
+pub mod ByNumberLaws
+pub mod Ended
+pub mod Examples
+pub mod LongLaws
+pub mod Place
+pub mod Positions
+pub mod Says
+pub mod Sound
+pub mod Spell
+pub mod Text

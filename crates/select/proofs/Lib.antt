@@ -1,0 +1,12 @@
+pub mod Dead
+pub mod Examples
+pub mod MarksAre
+pub mod NodelistIs
+pub mod PeakBound
+pub mod PeakIs
+pub mod PeakLevels
+pub mod PeakReached
+pub mod PickedIs
+pub mod PileBoundIs
+pub mod PileBoundPassed
+pub mod SpansAre
