@@ -10,10 +10,11 @@ use Rattle.swar.specs.KindLaws.{Plain, NotPlain, is_plain}
 use Rattle.swar.specs.Run.{Passed}
 use Rattle.encoding.specs.Utf8Steps as U
 use Rattle.encoding.specs.Utf8Steps.{Due, First, Next, lowest, highest}
-use Rattle.encoding.specs.Utf8At as A
-use Rattle.encoding.specs.Utf8At.{RestAt, ReadsAt, reads_at, scanned_within}
+use Rattle.encoding.proofs.Utf8At as A
+use Rattle.encoding.proofs.Utf8At.{RestAt, ReadsAt, reads_at, scanned_within}
 use Rattle.encoding.specs.WideRun as W
-use Rattle.encoding.specs.WideRun.{WideAt, WideRun, run_moved}
+use Rattle.encoding.specs.WideRun.{WideAt, WideRun}
+use Rattle.encoding.proofs.WideRunLaws.{run_moved}
 use Rattle.json_text.specs.Room.{Room, endless}
 use Rattle.json_text.specs.Machine.{Ctl, in_string, escaping, hex_due, closed, Stack, State, at, dead, one, span, hex_rules, rules, step, final}
 use Rattle.json_text.specs.MachineLaws.{inside, past, nowhere, landing, step_range, step_by}

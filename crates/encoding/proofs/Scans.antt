@@ -8,7 +8,7 @@ use native.Mathlib.Omega.{arith}
 use lib.ListN.{length, get_or, drop, drop_of_length-le}
 use Rattle.encoding.specs.BytesLaws.{byte_at_lem}
 use Rattle.encoding.specs.CodePoint.{Decoding, whole, wrong, short, later, due, is_whole, Scanned}
-use Rattle.encoding.specs.CodePointLaws.{is_whole_later, extent_later}
+use Rattle.encoding.proofs.CodePointLaws.{is_whole_later, extent_later}
 use Rattle.encoding.specs.Utf8Steps.{due_on, due_under, due_over}
 
 module _ {s : List ℕ} {i : ℕ} {read : List ℕ → Decoding} where

@@ -5,7 +5,6 @@ pub mod Class
 pub mod ClassLaws
 pub mod ClassTable
 pub mod CodePoint
-pub mod CodePointLaws
 pub mod Decimal
 pub mod DecimalLaws
 pub mod Examples
@@ -18,7 +17,6 @@ pub mod RowTable
 pub mod Unescape
 pub mod UnescapeLaws
 pub mod Utf8
-pub mod Utf8At
 pub mod Utf8Laws
 pub mod Utf8Steps
 pub mod Verdict

@@ -14,7 +14,7 @@ use Rattle.encoding.specs.BytesLaws.{byte_at_lem}
 use Rattle.encoding.specs.BytesLaws as L
 use Rattle.encoding.specs.CodePoint as C
 use Rattle.encoding.specs.CodePoint.{Scanned}
-use Rattle.encoding.specs.Utf8At.{reads_at, scanned_within, scanned_whole, scanned_moved}
+use Rattle.encoding.proofs.Utf8At.{reads_at, scanned_within, scanned_whole, scanned_moved}
 use Rattle.query.specs.Grammar as G
 use Rattle.query.specs.Grammar.{First, Later, Char, Depth, Quote, quote_byte, put_first, put_later, put_laters, put_char, put_chars, put_short}
 use Rattle.query.specs.Append.{append_chars, append-short, laters_more, chars_more}

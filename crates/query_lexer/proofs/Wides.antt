@@ -10,8 +10,8 @@ use lib.Dec.{T}
 use lib.ListN.{length, get_or, drop}
 use Rattle.encoding.specs.BytesLaws as L
 use Rattle.encoding.specs.Utf8.{any_tail, after_e0, after_ed, after_f0, after_f4}
-use Rattle.encoding.specs.Utf8At as A
-use Rattle.encoding.specs.Utf8At.{RestAt, ReadsAt}
+use Rattle.encoding.proofs.Utf8At as A
+use Rattle.encoding.proofs.Utf8At.{RestAt, ReadsAt}
 use Rattle.encoding.specs.Utf8Steps as U
 use Rattle.encoding.specs.Utf8Steps.{Due, lowest, highest, First, Next}
 use Rattle.query.specs.Machine as M

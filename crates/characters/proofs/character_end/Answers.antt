@@ -2,7 +2,7 @@
 -- control byte. Assumes nothing.
 use borrow.Author.Tests.{not-true, not-false}
 use Rattle.encoding.specs.RowTable.{narrow_below}
-use Rattle.encoding.specs.WideRun.{wide_at}
+use Rattle.encoding.proofs.WideRunLaws.{wide_at}
 use Rattle.characters.specs.Strings.{wide_characters, escaped_character, wrong_character}
 use Rattle.characters.proofs.character_end.Goals as goal
 

@@ -3,8 +3,9 @@ use Prim.Native.Nat.{◌-◌}
 use native.Mathlib.Omega.{arith}
 use borrow.Author.Tests.{not-true, not-false}
 use Rattle.encoding.specs.RowTable.{narrow_below}
-use Rattle.encoding.specs.Utf8At.{reads_at, scanned_moved}
-use Rattle.encoding.specs.WideRun.{over, narrow, broken, wide_at}
+use Rattle.encoding.proofs.Utf8At.{reads_at, scanned_moved}
+use Rattle.encoding.specs.WideRun.{over, narrow, broken}
+use Rattle.encoding.proofs.WideRunLaws.{wide_at}
 use Rattle.encoding.proofs.Runs.{run_broken, run_more}
 use Rattle.encoding.proofs.Scans.{at_wrong}
 use Rattle.encoding.proofs.code_points.Goals as goal

@@ -5,8 +5,9 @@ use Rattle.std.proofs.lemmas.Bool.{false≢true}
 use Rattle.encoding.specs.Utf8.{Wide, put_wide}
 use Rattle.encoding.specs.Prefix.{DeadPlace}
 use Rattle.encoding.specs.CodePoint.{Decoding, whole, wrong, short, decoding, is_whole, extent, StartsWide, Scanned}
-use Rattle.encoding.specs.CodePointLaws.{is_whole_later, extent_later, decoding_within, whole_wide, dead_byte}
-use Rattle.encoding.specs.Utf8Steps.{Due, one, lowest, highest, First, Next, Rest, Reads, reads}
+use Rattle.encoding.proofs.CodePointLaws.{is_whole_later, extent_later, decoding_within, whole_wide, dead_byte}
+use Rattle.encoding.specs.Utf8Steps.{Due, one, lowest, highest, First, Next, Rest, Reads}
+use Rattle.encoding.proofs.Utf8Reads.{reads}
 use Rattle.encoding.specs.Utf8Steps as Steps
 
 -- how the bytes due are read from place i on: ok and the place after them, or not ok and the place of the wrong byte

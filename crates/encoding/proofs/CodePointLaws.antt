@@ -14,7 +14,8 @@ use Rattle.encoding.specs.Utf8Steps.{Due, one, two, three, due_e0, due_ed, due_f
 use Rattle.encoding.specs.Utf8Steps.{First, in_c2_df, in_e0, in_e1_ec, in_ed, in_ee_ef, in_f0, in_f1_f3, in_f4}
 use Rattle.encoding.specs.Utf8Steps.{Next, two_one, three_two, e0_one, ed_one, f0_two, f4_two}
 use Rattle.encoding.specs.Utf8Steps.{Rest, cut, under, over, last, next, Reads, empty, too_low, too_high, first}
-use Rattle.encoding.specs.Utf8Steps.{due_on, due_under, due_over, next_reads, first_decoding, too_low_decoding, too_high_decoding, reads}
+use Rattle.encoding.specs.Utf8Steps.{due_on, due_under, due_over}
+use Rattle.encoding.proofs.Utf8Reads.{next_reads, first_decoding, too_low_decoding, too_high_decoding, reads}
 
 -- the bytes that are due, as a part of a code point
 data Owed : Due → Type 0 where
