@@ -1,3 +1,4 @@
+use mathlib.Core.Path.{refl}
 use mathlib.Core.Path.{sym}
 use Prim.Native.Nat.{◌-◌}
 use native.Mathlib.Omega.{arith}
@@ -27,22 +28,22 @@ loop-at-init c = (
 
 pub returns-in_default : goal.returns-in_default
 returns-in_default c =
-    so_far_refused c.loop-at.invariant.0 c.read_step-read.ensures c.in_default.is c.place_of.ensures
+    so_far_refused c.loop-at.invariant.0 c.read_step-read.ensures (rw c.in_default.is refl) c.place_of.ensures
     c.refuse-in_default.ensures
 
 pub too_many-requires : goal.too_many-requires
 too_many-requires c =
-    let t = step_taken c.read_step-read.ensures c.read-1.given.1 in
+    let t = step_taken c.read_step-read.ensures c.in-Taken.is in
     (t.within, c.loop-at.invariant.1)
 
 pub returns-then-steps-eq-MAX_STEPS : goal.returns-then-steps-eq-MAX_STEPS
 returns-then-steps-eq-MAX_STEPS c =
-    let t = step_taken c.read_step-read.ensures c.read-1.given.1 in
+    let t = step_taken c.read_step-read.ensures c.in-Taken.is in
     so_far_many c.loop-at.invariant.0 t (omega (arith, c.loop-at.invariant.0.held.holds.fits.few)) c.too_many.ensures
 
 pub entry_of-one-requires : goal.entry_of-one-requires
 entry_of-one-requires c =
-    let t = step_taken c.read_step-read.ensures c.read-1.given.1 in
+    let t = step_taken c.read_step-read.ensures c.in-Taken.is in
     so_far_stands c.loop-at.invariant.0 t
 
 pub add-steps-requires : goal.add-steps-requires
@@ -50,12 +51,12 @@ add-steps-requires c = so_far_room c.loop-at.invariant.0 c.if-steps-eq-MAX_STEPS
 
 pub loop-at-smaller : goal.loop-at-smaller
 loop-at-smaller c =
-    let t = step_taken c.read_step-read.ensures c.read-1.given.1 in
+    let t = step_taken c.read_step-read.ensures c.in-Taken.is in
     omega (arith, t.on, t.within)
 
 pub loop-at-preserved : goal.loop-at-preserved
 loop-at-preserved c =
-    let t = step_taken c.read_step-read.ensures c.read-1.given.1 in
+    let t = step_taken c.read_step-read.ensures c.in-Taken.is in
     (so_far_more c.loop-at.invariant.0 t c.entry_of-one.ensures c.add-steps.ensures, c.loop-at.invariant.1)
 
 pub returns : goal.returns
