@@ -60,3 +60,4 @@ among_within (byte h x) = h
 
 pub among_byte : {n : ℕ} {s : List ℕ} {i : ℕ} → AmongAt (n ∷ []) s i true → get_or s i 0 ≡ n
 among_byte (byte h (this e)) = e
+among_byte (byte h (other n x)) = elim x [ ]

@@ -213,6 +213,7 @@ sign_step : {b : ℕ} → Among signs b true → (k : Stack) (ρ : Room) → ste
 unfolding step
 sign_step (this e) k ρ = rw e refl
 sign_step (other n (this e)) k ρ = rw e refl
+sign_step (other n (other m x)) k ρ = elim x [ ]
 
 -- a byte that is no sign is taken as after a sign
 unsigned_step : {b : ℕ} → Among signs b false → (k : Stack) (ρ : Room) → step (at after_e k ρ) b ≡ step (at after_sign k ρ) b
@@ -315,6 +316,7 @@ module _ {s : List ℕ} {i : ℕ} (l : i ≤ length s) {q : Bool} (x : AmongAt (
       where
         by : AmongAt (0x2E ∷ []) s i true → Led s a c after_point true (i + 1)
         by (byte h (this n)) = led_go p after_point h (λ k ρ. point_step n w k ρ)
+        by (byte h (other n y)) = elim y [ ]
 
     pub point_within : i + 1 ≤ length s
     point_within = let h : i < length s = among_within (rw e at x) in omega arith
