@@ -1,5 +1,4 @@
 -- A value and the items of a container: each way out is one law of Laws. Assumes nothing.
-use Prim.Native.Nat.{◌+◌}
 use native.Mathlib.Omega.{arith}
 use mathlib.Core.Path.{sym, ◌∙◌}
 use Rattle.plain.proofs.Laws.{value_past, value_too_deep, value_scalar, value_container}

@@ -1,5 +1,4 @@
 -- A value, and the items of a container, turn by turn: each way out is one law of Descent or of Turns. Assumes nothing.
-use Prim.Native.Nat.{◌+◌}
 use mathlib.Core.Path.{sym, ◌∙◌}
 use native.Mathlib.Omega.{arith}
 use Rattle.seek.proofs.Descent.{seeks_there, seeks_behind, seeks_outside, seeks_deeper, seeks_scalar, seeks_below}

@@ -1,5 +1,4 @@
 -- What was found below an item was found below the container, with the link of the item kept. Assumes nothing.
-use Prim.Native.Nat.{◌+◌}
 use mathlib.Core.Path.{sym, ◌∙◌}
 use native.Mathlib.Omega.{arith}
 use Rattle.seek.proofs.Descent.{seeks_there, seeks_behind, seeks_outside, seeks_deeper, seeks_scalar, seeks_below}
