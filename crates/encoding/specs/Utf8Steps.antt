@@ -1,12 +1,11 @@
 -- UTF-8 byte by byte: what is due after a first byte, and how a code point is read by it.
-use Rattle.std.specs.Prelude.{◌≡◌, Bool, true, false, ◌⊎◌, leb, length, get_or, take, drop}
-use Rattle.std.proofs.Math.Path.{refl}
-use Rattle.std.proofs.Common.{◌∙◌, inl, inr, arith, leb-true, leb-false}
+use Rattle.std.specs.Prelude.{◌≡◌, length, get_or, drop}
+use Rattle.std.proofs.Common.{arith}
 use mathlib.Core.List.{List, [], ◌∷◌}
 use Prim.Native.Nat.{ℕ, zero, suc, ◌≤◌, ◌<◌, ◌-◌}
 use Rattle.encoding.specs.BytesLaws.{inside, beneath, beyond}
-use Rattle.encoding.specs.Utf8.{Second, any_tail, after_e0, after_ed, after_f0, after_f4, second_low, second_high, Row, row, rows}
-use Rattle.encoding.specs.CodePoint.{Decoding, whole, wrong, short, later, due, decode_by, decoding}
+use Rattle.encoding.specs.Utf8.{Second, any_tail, after_e0, after_ed, after_f0, after_f4, second_low, second_high, Row, row}
+use Rattle.encoding.specs.CodePoint.{Decoding, whole, wrong, short, later, due, decode_by}
 
 -- one, two or three bytes from 80 to BF, or what follows this first byte
 pub data Due : Type 0 where

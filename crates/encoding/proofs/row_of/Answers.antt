@@ -1,4 +1,3 @@
-use Prim.Native.Nat.{◌-◌}
 use native.Mathlib.Omega.{arith}
 use Rattle.encoding.specs.RowTable.{from_start, from_over, row_found, row_under, row_none, low_at_lem, high_at}
 use Rattle.encoding.proofs.row_of.Goals as goal

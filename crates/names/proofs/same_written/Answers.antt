@@ -1,5 +1,4 @@
 use mathlib.Core.Path.{refl}
-use Prim.Native.Nat.{◌-◌}
 use native.Mathlib.Omega.{arith}
 use Rattle.names.proofs.Agree.{differs, agree_on, agree_no, agree_all}
 use Rattle.names.proofs.same_written.Goals as goal

@@ -1,4 +1,3 @@
-use Prim.Native.Nat.{◌-◌}
 use native.Mathlib.Omega.{arith}
 use Rattle.escapes.specs.LeftLaws.{size_bounds}
 use Rattle.names.proofs.Write.{writing_start, writing_within, writing_length, writing_end}

@@ -8,8 +8,7 @@ pub returns-then-at-record : goal.returns-then-at-record
 returns-then-at-record c = ends_outside _ _ c.requires.at_in_bounds.0 c.if-at-record.true
 
 pub leave-requires : goal.leave-requires
-leave-requires c = let both = search (rules, c.none_kept-kept.ensures) in
-    record { record_len_bound = both.0; kept = both.1 }
+leave-requires c = record { record_len_bound = search rules; kept = search (rules, c.none_kept-kept.ensures) }
 
 pub returns-then-class-eq-OPENING : goal.returns-then-class-eq-OPENING
 returns-then-class-eq-OPENING c = ends_container _ _ _ c.if-at-record.false (sym c.class.ensures ∙ c.if-class-eq-OPENING.true) c.leave.ensures.leaves
