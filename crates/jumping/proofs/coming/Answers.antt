@@ -1,12 +1,12 @@
 -- The root is the value ahead before any container is open; else the item's name or its position, and its container's marks, give the
 -- value's. Assumes nothing.
 use mathlib.Core.Path.{refl}
-use mathlib.Core.Logic.{⊎_elim}
 use native.Mathlib.Omega.{arith}
 use Rattle.walk.specs.Labels.{of_escaped, of_member, of_array}
 use Rattle.jumping.proofs.Items.{item_due}
 use Rattle.jumping.proofs.Root.{root_comes}
 use Rattle.jumping.proofs.coming.Goals as goal
+use Rattle.jumping.proofs.coming.Goals.{then-object+then-item, then-object+else-item, else-object}
 
 pub returns-then-a-eq0 : goal.returns-then-a-eq0
 returns-then-a-eq0 c =
@@ -33,8 +33,11 @@ returns c =
       due = λ x h whole levels held waits list y.
           item_due h (y.item c.requires.item_value.0 c.if-a-eq0.false) refl refl c.enter_item-item.ensures
           (λ l labelled. c.advance-child.ensures _ _ l
-          (⊎_elim (λ w. of_escaped _ _ w.0.taken w.3 (w.2.ensures _ refl refl refl) l labelled)
-          (⊎_elim (λ w. of_member _ _ w.0.taken (c.enter_item-item.ensures.bare w.1.left) w.3 w.2.ensures l labelled)
-          (λ w. of_array _ _ w.0.left w.2.ensures w.4 (w.3.ensures _) l labelled))
-          c.if-object.branch));
+          (elim c.if-object.branch [
+            | then-object+then-item w ↦ of_escaped _ _ w.if-object.true w.hits-is (w.taking_escaped.ensures _ refl refl refl) l labelled
+            | then-object+else-item w ↦
+                of_member _ _ w.if-object.true (c.enter_item-item.ensures.bare w.if-item.false) w.hits-is w.taking_member.ensures l labelled
+            | else-object w ↦
+                of_array _ _ w.if-object.false w.wide.ensures w.hits-is (w.taking_element-hits.ensures _) l labelled
+          ]));
     }

@@ -18,7 +18,7 @@ turn-a-requires c =
     }
 
 pub shape_of-list-then-depth-eq0 : goal.shape_of-list-then-depth-eq0
-shape_of-list-then-depth-eq0 c = c.turn-a.auto.1.1.1.1.1.1.0 ∙ c.loop-classes.invariant.0.size_is
+shape_of-list-then-depth-eq0 c = c.turn-a.auto.list ∙ c.loop-classes.invariant.0.size_is
 
 pub returns-then-depth-eq0 : goal.returns-then-depth-eq0
 returns-then-depth-eq0 c = walk_ends c.loop-classes.invariant.0 c.turn-a.ensures.turns c.start-a.ensures clear_sized c.if-depth-eq0.true
@@ -28,6 +28,6 @@ loop-classes-smaller c = c.turn-a.ensures.turns.fewer
 
 pub loop-classes-preserved : goal.loop-classes-preserved
 loop-classes-preserved c = (
-  running_on c.loop-classes.invariant.0 c.turn-a.ensures.turns c.turn-a.auto.1.1.1.1.1.1.0 c.if-depth-eq0.false,
+  running_on c.loop-classes.invariant.0 c.turn-a.ensures.turns c.turn-a.auto.list c.if-depth-eq0.false,
   c.turn-a.ensures.kept_2,
 )
