@@ -1,0 +1,2 @@
+-- Lemmas of `standard_input`.
+mod Overwritten
