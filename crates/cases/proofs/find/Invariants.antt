@@ -1,7 +1,6 @@
 -- `cases::find` meets its contract. The loop's invariant: `i` lies between `at` and the end of the bytes.
 -- The measure is what is left of the bytes. Assumes nothing.
-use Prim.Native.Nat.{◌≤◌, ◌-◌}
-use lib.ListN.{length}
+use Rattle.std.proofs.Common.{◌-◌, ◌≤◌, length}
 use Rattle.cases.proofs.find.Given as goal
 
 abbrev pub invariant-loop-i : goal.invariant-loop-i

@@ -1,8 +1,6 @@
 -- `cases::write_text` meets its contract. The loop's invariant: `at` is at most the end of the text, what is written has room, and the
 -- room keeps its length. The measure is what is left of the text. Assumes nothing.
-use Prim.Native.Nat.{◌≤◌, ◌-◌}
-use mathlib.Core.Path.{◌≡◌}
-use lib.ListN.{length}
+use Rattle.std.proofs.Common.{◌≡◌, ◌-◌, ◌≤◌, length}
 use Rattle.cases.proofs.write_text.Given as goal
 
 abbrev pub invariant-loop-at : goal.invariant-loop-at

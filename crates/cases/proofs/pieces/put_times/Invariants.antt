@@ -1,8 +1,6 @@
 -- `cases::pieces::put_times` meets its contract. The loop's invariant: `end` lies between `at` and the end of the room, which keeps
 -- its length. The measure is how many times are left. Assumes nothing.
-use Prim.Native.Nat.{◌≤◌, ◌-◌}
-use mathlib.Core.Path.{◌≡◌}
-use lib.ListN.{length}
+use Rattle.std.proofs.Common.{◌≡◌, ◌-◌, ◌≤◌, length}
 use Rattle.cases.proofs.pieces.put_times.Given as goal
 
 abbrev pub invariant-loop-i : goal.invariant-loop-i
