@@ -7,6 +7,8 @@ mod show;
 use cases::show::{print_end, print_line};
 use cases::{line_end, second_word, write_text};
 use show::run;
+use standard_input::read_full;
+use std::io;
 
 // The most bytes of the file.
 const FILE_ROOM: usize = 16384;
@@ -27,36 +29,36 @@ struct State {
 }
 
 // Runs the input that a text stands for.
-fn run_text(text: &[u8], state: State) -> State {
+fn run_text(rt: &impl Print, text: &[u8], state: State) -> io::Result<State> {
     let mut space = [0u8; INPUT_ROOM];
     let written = write_text(text, &mut space);
     let size = written.size;
-    run(&space[0..size]);
-    State {
-        cases: std::num::wrapping_add_u32(state.cases, 1),
+    run(rt, &space[0..size])?;
+    Ok(State {
+        cases: state.cases.wrapping_add(1),
         good: written.good,
-    }
+    })
 }
 
 // Prints a line, and does what it says.
-fn run_line(line: &[u8], state: State) -> State {
-    print_line(line);
+fn run_line(rt: &impl Print, line: &[u8], state: State) -> io::Result<State> {
+    print_line(rt, line)?;
     if line.len() == 0 {
-        return state;
+        return Ok(state);
     }
     let start = second_word(line);
     match line[0] {
-        NOTE => state,
-        INPUT => run_text(&line[start..], state),
-        _ => State {
+        NOTE => Ok(state),
+        INPUT => run_text(rt, &line[start..], state),
+        _ => Ok(State {
             cases: state.cases,
             good: false,
-        },
+        }),
     }
 }
 
 // Runs the lines of a file, up to the first that cannot be read.
-fn run_lines(file: &[u8]) {
+fn run_lines(rt: &impl Print, file: &[u8]) -> io::Result<()> {
     let mut state = State {
         cases: 0,
         good: true,
@@ -64,14 +66,14 @@ fn run_lines(file: &[u8]) {
     let mut at = 0;
     while at < file.len() {
         let end = line_end(file, at);
-        state = run_line(&file[at..end], state);
+        state = run_line(rt, &file[at..end], state)?;
         at = if state.good { end + 1 } else { file.len() };
     }
-    print_end(state.good, state.cases);
+    print_end(rt, state.good, state.cases)
 }
 
-fn main() {
+fn main(rt: HostRuntime) -> io::Result<()> {
     let mut file = [0u8; FILE_ROOM];
-    let size = io::read_full(libc::STDIN_FILENO, &mut file);
-    run_lines(&file[..size]);
+    let size = read_full(&mut rt.reader(), &mut file)?;
+    run_lines(&rt, &file[..size])
 }

@@ -1,6 +1,7 @@
 // Runs an input and prints what comes of it.
 use cases::show::{print, print_number};
 use report::{OUTPUT_SIZE, print_picklist};
+use std::io;
 
 // What the buffer holds before a call, at each place.
 const OLD: u8 = b'.';
@@ -11,7 +12,7 @@ fn changed(out: &[u8; OUTPUT_SIZE], from: usize) -> u64 {
     let mut i = from;
     while i < OUTPUT_SIZE {
         if out[i] != OLD {
-            count = std::num::wrapping_add_u64(count, 1);
+            count = count.wrapping_add(1);
         }
         i += 1;
     }
@@ -19,18 +20,18 @@ fn changed(out: &[u8; OUTPUT_SIZE], from: usize) -> u64 {
 }
 
 // Prints the size of a text, and how many bytes of the buffer beyond it were changed.
-fn print_rest(out: &[u8; OUTPUT_SIZE], size: usize) {
-    print(b"(");
-    print_number(size as u64);
-    print(b" bytes, ");
-    print_number(changed(out, size));
-    print(b" changed beyond)\n");
+fn print_rest(rt: &impl Print, out: &[u8; OUTPUT_SIZE], size: usize) -> io::Result<()> {
+    print(rt, b"(")?;
+    print_number(rt, size as u64)?;
+    print(rt, b" bytes, ")?;
+    print_number(rt, changed(out, size))?;
+    print(rt, b" changed beyond)\n")
 }
 
 // Prints what comes of an input.
-pub fn run(input: &[u8]) {
+pub fn run(rt: &impl Print, input: &[u8]) -> io::Result<()> {
     let mut out = [OLD; OUTPUT_SIZE];
     let size = print_picklist(input, &mut out);
-    print(&out[..size]);
-    print_rest(&out, size);
+    print(rt, &out[..size])?;
+    print_rest(rt, &out, size)
 }

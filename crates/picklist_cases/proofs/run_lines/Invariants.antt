@@ -3,8 +3,5 @@
 use Rattle.std.proofs.Common.{◌+◌, ◌-◌, length}
 use Rattle.picklist_cases.proofs.run_lines.Given as goal
 
-abbrev pub invariant-loop-at : goal.invariant-loop-at
-invariant-loop-at l = Unit
-
 abbrev pub decreases-loop-at : goal.decreases-loop-at
-decreases-loop-at l = (length l.file + 1) - l.at
+decreases-loop-at g l = (length l.file + 1) - l.at
