@@ -7,7 +7,7 @@ mod lists;
 mod paths;
 mod piles;
 
-ghost use Rattle.std.specs.Prelude.{◌≡◌, ◌≤◌, length};
+ghost use Rattle.std.specs.Prelude.{◌≡◌, ◌≤◌, length, IfOk, OnErr};
 ghost use Rattle.call_cases.specs.Sizes.{Fits};
 
 use calls::{run_blocks, run_value};
@@ -16,6 +16,7 @@ use cases::{line_end, read_count, second_word, write_text};
 use lists::{MAX_NUMBERS, run_query};
 use paths::run_path;
 use piles::run_frames;
+use std::io;
 
 // The most bytes of a record, and one more.
 const RECORD_ROOM: usize = 4096;
@@ -91,50 +92,58 @@ fn counted(state: State, good: bool) -> State
     State {
         size: state.size,
         numbers: state.numbers,
-        cases: std::num::wrapping_add_u32(state.cases, 1),
+        cases: state.cases.wrapping_add(1),
         good,
     }
 }
 
 // Makes the calls of a line.
-fn run_calls(key: u8, text: &[u8], record: &[u8], state: State) -> State
+fn run_calls(
+    rt: &impl Print,
+    key: u8,
+    text: &[u8],
+    record: &[u8],
+    state: State,
+) -> io::Result<State>
     requires { state.numbers ≤ 64 }
-    ensures { (result.size ≡ state.size) × (result.numbers ≡ state.numbers) }
+    ensures { IfOk result (λ after. (after.size ≡ state.size) × (after.numbers ≡ state.numbers)) }
 {
-    match key {
-        QUERY => counted(state, run_query(text, record, state.numbers)),
-        VALUE => counted(state, run_value(text, record)),
-        PATH => counted(state, run_path(text, record, state.numbers)),
-        FRAMES => counted(state, run_frames(text)),
+    let good = match key {
+        QUERY => run_query(rt, text, record, state.numbers)?,
+        VALUE => run_value(rt, text, record)?,
+        PATH => run_path(rt, text, record, state.numbers)?,
+        FRAMES => run_frames(rt, text)?,
         BLOCKS => {
-            run_blocks(record);
-            counted(state, true)
+            run_blocks(rt, record)?;
+            true
         }
-        _ => counted(state, false),
-    }
+        _ => false,
+    };
+    Ok(counted(state, good))
 }
 
 // Prints a line, and does what it says.
-fn run_line(line: &[u8], record: &mut [u8], state: State) -> State
+fn run_line(rt: &impl Print, line: &[u8], record: &mut [u8], state: State) -> io::Result<State>
     requires { Fits (length «record».old) state.size state.numbers }
-    ensures { Fits (length «record».old) result.size result.numbers }
+    ensures fits { IfOk result (λ after. Fits (length «record».old) after.size after.numbers) }
+    ensures err { OnErr result («record».new ≡ «record».old) }
 {
-    print_line(line);
+    print_line(rt, line)?;
     if line.len() == 0 {
-        return state;
+        return Ok(state);
     }
     let start = second_word(line);
     let size = state.size;
     match line[0] {
-        NOTE => state,
-        LIST => set_list(&line[start..], state),
-        RECORD => set_record(&line[start..], record, state),
-        key => run_calls(key, &line[start..], &record[0..size], state),
+        NOTE => Ok(state),
+        LIST => Ok(set_list(&line[start..], state)),
+        RECORD => Ok(set_record(&line[start..], record, state)),
+        key => run_calls(rt, key, &line[start..], &record[0..size], state),
     }
 }
 
 // Runs the lines of a file, up to the first that cannot be read.
-fn run_lines(input: &[u8], record: &mut [u8]) {
+fn run_lines(rt: &impl Print, input: &[u8], record: &mut [u8]) -> io::Result<()> {
     let mut state = State {
         size: 0,
         numbers: 0,
@@ -144,14 +153,14 @@ fn run_lines(input: &[u8], record: &mut [u8]) {
     let mut at = 0;
     while at < input.len() {
         let end = line_end(input, at);
-        state = run_line(&input[at..end], record, state);
+        state = run_line(rt, &input[at..end], record, state)?;
         at = if state.good { end + 1 } else { input.len() };
     }
-    print_end(state.good, state.cases);
+    print_end(rt, state.good, state.cases)
 }
 
 // Runs a file.
-pub fn run_file(file: &[u8]) {
+pub fn run_file(rt: &impl Print, file: &[u8]) -> io::Result<()> {
     let mut record = [0u8; RECORD_ROOM];
-    run_lines(file, &mut record);
+    run_lines(rt, file, &mut record)
 }

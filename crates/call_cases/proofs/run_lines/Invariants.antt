@@ -5,7 +5,7 @@ use Rattle.std.proofs.Common.{◌≡◌, ◌+◌, ◌-◌, length}
 use Rattle.call_cases.proofs.run_lines.Given as goal
 
 abbrev pub invariant-loop-at : goal.invariant-loop-at
-invariant-loop-at l = (Fits (length l.initial.record) l.state.size l.state.numbers) × (length l.record ≡ length l.initial.record)
+invariant-loop-at g l = (Fits (length l.initial.record) l.state.size l.state.numbers) × (length l.record ≡ length l.initial.record)
 
 abbrev pub decreases-loop-at : goal.decreases-loop-at
-decreases-loop-at l = (length l.input + 1) - l.at
+decreases-loop-at g l = (length l.input + 1) - l.at

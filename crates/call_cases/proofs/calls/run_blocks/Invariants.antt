@@ -4,7 +4,7 @@ use Rattle.std.proofs.Common.{◌≤◌, length}
 use Rattle.call_cases.proofs.calls.run_blocks.Given as goal
 
 abbrev pub invariant-loop-rest : goal.invariant-loop-rest
-invariant-loop-rest l = l.rest ≤ length l.record
+invariant-loop-rest g l = l.rest ≤ length l.record
 
 abbrev pub decreases-loop-rest : goal.decreases-loop-rest
-decreases-loop-rest l = l.rest
+decreases-loop-rest g l = l.rest
