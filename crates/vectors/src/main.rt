@@ -1,11 +1,15 @@
 // Runs the published vectors: the file of cases that is standard input, which rust/vectors makes of the suite.
 #![tactic(auto)]
 
+use call_cases::run_file;
+use standard_input::read_full;
+use std::io;
+
 // The most bytes of the file.
 const FILE_ROOM: usize = 81920;
 
-fn main() {
+fn main(rt: HostRuntime) -> io::Result<()> {
     let mut file = [0u8; FILE_ROOM];
-    let size = io::read_full(libc::STDIN_FILENO, &mut file);
-    call_cases::run_file(&file[..size]);
+    let size = read_full(&mut rt.reader(), &mut file)?;
+    run_file(&rt, &file[..size])
 }
