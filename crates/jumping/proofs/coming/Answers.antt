@@ -1,6 +1,6 @@
 -- The root is the value ahead before any container is open; else the item's name or its position, and its container's marks, give the
 -- value's. Assumes nothing.
-use mathlib.Core.Path.{refl}
+use Rattle.std.proofs.Common.{refl, eq-eqb, ne_eqb}
 use native.Mathlib.Omega.{arith}
 use Rattle.walk.specs.Labels.{of_escaped, of_member, of_array}
 use Rattle.jumping.proofs.Items.{item_due}
@@ -34,10 +34,10 @@ returns c =
           item_due h (y.item c.requires.item_value.0 c.if-a-eq0.false) refl refl c.enter_item-item.ensures
           (λ l labelled. c.advance-child.ensures _ _ l
           (elim c.if-object.branch [
-            | then-object+then-item w ↦ of_escaped _ _ w.if-object.true w.hits-is (w.taking_escaped.ensures _ refl refl refl) l labelled
+            | then-object+then-item w ↦ of_escaped _ _ (eq-eqb _ _ w.if-object.true) w.hits-is (w.taking_escaped.ensures _ refl refl refl) l labelled
             | then-object+else-item w ↦
-                of_member _ _ w.if-object.true (c.enter_item-item.ensures.bare w.if-item.false) w.hits-is w.taking_member.ensures l labelled
+                of_member _ _ (eq-eqb _ _ w.if-object.true) (c.enter_item-item.ensures.bare w.if-item.false) w.hits-is w.taking_member.ensures l labelled
             | else-object w ↦
-                of_array _ _ w.if-object.false w.wide.ensures w.hits-is (w.taking_element-hits.ensures _) l labelled
+                of_array _ _ (ne_eqb _ _ w.if-object.false) w.wide.ensures w.hits-is (w.taking_element-hits.ensures _) l labelled
           ]));
     }
