@@ -23,8 +23,8 @@ unfolding byte_at
 loop-i-preserved c = (
   omega arith,
   elim c.if-rest-i-eq-BACKSLASH.branch [
-      | then-rest-i-eq-BACKSLASH w ↦ w.run-is ∙ on-run _ _ _ _ w.if-rest-i-eq-BACKSLASH.true c.loop-i.invariant.1
-      | else-rest-i-eq-BACKSLASH w ↦ w.run-is ∙ ne_eqb _ 0x5C w.if-rest-i-eq-BACKSLASH.false ∙ off-run _ _ _ w.if-rest-i-eq-BACKSLASH.false
+    | then-rest-i-eq-BACKSLASH w ↦ w.run-is ∙ on-run _ _ _ _ w.if-rest-i-eq-BACKSLASH.true c.loop-i.invariant.1
+    | else-rest-i-eq-BACKSLASH w ↦ w.run-is ∙ ne_eqb _ 0x5C w.if-rest-i-eq-BACKSLASH.false ∙ off-run _ _ _ w.if-rest-i-eq-BACKSLASH.false
   ],
 )
 
