@@ -1,6 +1,6 @@
 -- `bound::bound_pile` meets its contract: refused as the query is, or what its steps say of the frames; the record beside it is taken.
 -- Assumes nothing.
-use mathlib.Core.Path.{sym, ap, ◌∙◌}
+use mathlib.Core.Path.{refl, sym, ap, ◌∙◌}
 use native.Mathlib.Omega.{arith}
 use Rattle.answers.specs.Bound.{is_bound, at_most}
 use Rattle.bound.specs.Told.{told}
@@ -19,7 +19,7 @@ returns-in_default c =
     let read = c.admit-input.ensures in
     let none = c.if-input-ne0.false in
     query_taken _ _ read none
-    (no_bound c.frames_of.result c.in_default.is
+    (no_bound c.frames_of.result (rw c.in_default.is refl)
     ∙ c.frames_of.ensures _ (deep_steps _ _ read none))
 
 pub returns : goal.returns
@@ -28,5 +28,5 @@ returns c =
     let read = c.admit-input.ensures in
     let none = c.if-input-ne0.false in
     query_taken _ _ read none
-    (ap told (sym c.frames-1.given.1)
+    (ap told (sym c.in-AtMost.is)
     ∙ c.frames_of.ensures _ (deep_steps _ _ read none))

@@ -47,7 +47,10 @@ loop-i-preserved c =
           passed_step q i (omega (arith, h.number)) found deep
           (c.loop-i.invariant.2 q h)
           (sym (h.deep i) ∙ sym c.has-next.ensures)
-          (λ e. elim c.else-found.branch [ inl x ↦ not-false deep x.1.left | inr x ↦ absurd (false≢true (sym x.left ∙ e)) ]),
+          (λ e. elim c.else-found.branch [
+            | goal.else-found-via-then-found+else-not-next x ↦ not-false deep x.if-not-next.false-raw
+            | goal.else-found-via-else-found x ↦ absurd (false≢true (sym x.if-found.false ∙ e))
+          ]),
     )
 
 pub overflow_sub-result : goal.overflow_sub-result

@@ -11,7 +11,7 @@ write_answer-requires c =
     let lister = c.list_jumping-answer in
     record {
       pairs_le_max_pairs = answer_fits lister.ensures;
-      pairs_in_bounds = omega (arith, answer_fits lister.ensures, lister.auto.1.1.0);
+      pairs_in_bounds = omega (arith, answer_fits lister.ensures, lister.auto.list);
     }
 
 pub returns : goal.returns

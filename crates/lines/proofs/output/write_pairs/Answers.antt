@@ -14,7 +14,7 @@ pub loop-i-preserved : goal.loop-i-preserved
 loop-i-preserved c =
     let line = c.write_line-end in
     let here = c.loop-i in
-    (omega arith, left_next c.loop-i-test.true here.invariant.1 line.ensures, line.auto.0 ∙ here.invariant.2)
+    (omega arith, left_next c.loop-i-test.true here.invariant.1 line.ensures, line.auto.out ∙ here.invariant.2)
 
 pub returns : goal.returns
 returns c = left_done c.loop-i-test.false c.loop-i.invariant.1
