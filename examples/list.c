@@ -2,7 +2,7 @@
  * Prints the nodes of a record that a query picks out, a line for each: first byte, byte after the
  * last, and the bytes between.
  *
- *   cc -I include examples/list.c target/staticlib/libwoodcrock_c.a -o list
+ *   cc -I include examples/list.c crates/woodcrock_c/out/libwoodcrock_c.a -o list
  *   ./list '$..lot' < record.json
  */
 #include "woodcrock.h"

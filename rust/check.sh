@@ -11,9 +11,9 @@ done
 
 # Only the library of this repository, made now, is to be linked.
 unset WOODCROCK_LIBRARY
-rm -f target/staticlib/libwoodcrock_c.a
-rt staticlib woodcrock_c
-rt check picklist
+rm -f crates/woodcrock_c/out/libwoodcrock_c.a crates/picklist/out/picklist
+(cd crates/woodcrock_c && rt lib)
+(cd crates/picklist && rt run < /dev/null)
 
 cd rust
 cargo build --locked --offline --release --package differential
@@ -25,4 +25,4 @@ trap 'kill "$random" 2> /dev/null || true' EXIT
 cargo test --locked --offline --workspace
 wait "$random"
 trap - EXIT
-cargo run --locked --offline --release --package differential -- --seed 2 --picklist ../target/bin/picklist
+cargo run --locked --offline --release --package differential -- --seed 2 --picklist ../crates/picklist/out/picklist

@@ -1,4 +1,4 @@
-//! Links the static library, target/staticlib/libwoodcrock_c.a in the top folder. The environment
+//! Links the static library, crates/woodcrock_c/out/libwoodcrock_c.a below the top folder. The environment
 //! variable `WOODCROCK_LIBRARY` names another folder. A library that is missing fails the build.
 
 use std::{env, path::PathBuf, process::exit};
@@ -13,14 +13,14 @@ fn main() {
     }
     let folder = match env::var_os("WOODCROCK_LIBRARY") {
         Some(folder) => PathBuf::from(folder),
-        None => top_folder().join("target/staticlib"),
+        None => top_folder().join("crates/woodcrock_c/out"),
     };
     let archive = folder.join("libwoodcrock_c.a");
     println!("cargo::rerun-if-changed={}", archive.display());
     if !archive.is_file() {
         fail(&format!(
-            "the static library {} is missing: build it with `rt staticlib woodcrock_c` in the top \
-             folder, or let WOODCROCK_LIBRARY name its folder",
+            "the static library {} is missing: build it with `rt lib` in \
+             crates/woodcrock_c, or let WOODCROCK_LIBRARY name its folder",
             archive.display()
         ));
     }

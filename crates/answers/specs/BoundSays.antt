@@ -9,7 +9,7 @@ use Rattle.answers.specs.Bound.{max_frames}
 use Rattle.answers.specs.Within.{QueryIs}
 
 -- ground, place, whether the steps bound the pile, and the most frames that it can come to
-pub data BoundSays (query : List ℕ) : (ground place : ℕ) → (bounded : Bool) → (frames : ℕ) → Type 0 where
+pub data BoundSays (query : List ℕ) : (ground : ℕ) (place : ℕ) → (bounded : Bool) → (frames : ℕ) → Type 0 where
   -- 1 to 3: what the verdict says of the query
   query_refused : (v : Verdict) → QuerySays query v → 0 < v.ground → BoundSays query v.ground v.place false 0
   -- plain steps followed by one or more deep steps: one fewer than its steps

@@ -14,7 +14,7 @@ use Rattle.query_parser.specs.Holds.{Holds}
 use Rattle.select.specs.PileBoundOf.{pile_bound}
 use Rattle.answers.specs.Bound.{is_bound, at_most, bounded_if, frames_if, bounded, frames_bound, BoundsPile}
 use Rattle.answers.specs.Lister.{or_else, input_verdict}
-use Rattle.answers.specs.ListerIs.{refuses_first}
+use Rattle.answers.proofs.ListerIs.{refuses_first}
 use Rattle.answers.specs.WithinLaws.{taken_query, query_is_taken}
 use Rattle.lister.specs.Answers.{Admits}
 use Rattle.lister.specs.declared.Input.{Input}

@@ -4,7 +4,7 @@
 
 mod calls;
 mod lists;
-mod paths;
+mod path_cases;
 mod piles;
 
 ghost use Rattle.std.specs.Prelude.{◌≡◌, ◌≤◌, length, IfOk, OnErr};
@@ -14,7 +14,7 @@ use calls::{run_blocks, run_value};
 use cases::show::{print_end, print_line};
 use cases::{line_end, read_count, second_word, write_text};
 use lists::{MAX_NUMBERS, run_query};
-use paths::run_path;
+use path_cases::run_path;
 use piles::run_frames;
 use std::io;
 

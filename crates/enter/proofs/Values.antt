@@ -29,7 +29,7 @@ use Rattle.walk.specs.Ahead.{ItemsAhead}
 use Rattle.walk.specs.AheadLaws.{items_inside, no_items, first_item_lem}
 use Rattle.walk.specs.ValueLaws.{scalar_passed, container_entered}
 use Rattle.pile.specs.Pile.{Pile, kept, Open, kind_at, ValuePassed, ItemDue, ValueDue, ContainerDue}
-use Rattle.pile.specs.PileLaws.{passed_sized, passed_few, passed_kept, level_new}
+use Rattle.pile.proofs.PileLaws.{passed_sized, passed_few, passed_kept, level_new}
 use Rattle.pile.specs.Moves.{Lost, Idle, Skipped}
 use Rattle.pile.specs.Due.{tally_at}
 use Rattle.pile.specs.DueLaws.{onward_lost, lost_item}

@@ -16,7 +16,7 @@ use Rattle.select.specs.Order.{first_before_end, below_within}
 use Rattle.select.specs.Visits.{nodes}
 use Rattle.answers.specs.Lister.{or_else}
 use Rattle.answers.specs.Finder.{end_among, end_at, end_in, offset_verdict, find_verdict, or_zero, end_if, find_end, Finds, value_part, start_if, part_start}
-use Rattle.answers.specs.FinderIs.{finder_says_only, finds_say, reader_part, reader_says_only}
+use Rattle.answers.proofs.FinderIs.{finder_says_only, finds_say, reader_part, reader_says_only}
 use Rattle.answers.specs.FinderSays.{FinderSays, record_refused, no_value, found, nothing}
 use Rattle.answers.specs.Within.{RecordIs}
 use Rattle.answers.specs.WithinLaws.{record_is_taken, record_tree, taken_record}

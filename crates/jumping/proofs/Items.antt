@@ -26,7 +26,7 @@ use Rattle.walk.specs.Ahead.{value_at}
 use Rattle.walk.specs.AheadLaws as A
 use Rattle.walk.specs.Labels.{LabelBy, label_is}
 use Rattle.pile.specs.Pile.{Pile, pile, kind_at, ValuePassed, root, item, ItemDue, ValueDue}
-use Rattle.pile.specs.PileLaws.{passed_sized, passed_counted, at_position, level_counted, popped}
+use Rattle.pile.proofs.PileLaws.{passed_sized, passed_counted, at_position, level_counted, popped}
 use Rattle.pile.specs.Moves.{Pops, CountsOn}
 
 -- an item is ahead; its value stands at v, its name from a to e

@@ -41,11 +41,11 @@ abbrev pub matches : (pairs : ℕ) → List ℕ → List ℕ
 matches n l = line (ascii "matches") (decimal n ∷ []) ++ pair_lines 0 n l
 
 -- "A refusal prints only `refused`, the ground and the place"
-abbrev pub refusal : (ground place : ℕ) → List ℕ
+abbrev pub refusal : (ground : ℕ) (place : ℕ) → List ℕ
 refusal g p = line (ascii "refused") (decimal g ∷ decimal p ∷ [])
 
 -- the text for an answer
-unfoldable pub report : (ground place pairs : ℕ) → List ℕ → List ℕ
+unfoldable pub report : (ground : ℕ) (place pairs : ℕ) → List ℕ → List ℕ
 unfolding line decimal pair_lines
 report zero p n l = matches n l
 report (suc g) p n l = refusal (suc g) p

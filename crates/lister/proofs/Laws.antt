@@ -12,7 +12,7 @@ use Rattle.query_parser.specs.Answer.{QueryRead}
 use Rattle.query_parser.specs.declared.Outcome.{Outcome}
 use Rattle.encoding.specs.Verdict.{Verdict}
 use Rattle.answers.specs.Lister.{input_verdict}
-use Rattle.answers.specs.ListerIs.{refuses_first}
+use Rattle.answers.proofs.ListerIs.{refuses_first}
 use Rattle.answers.specs.Small.{query_place, record_place}
 use Rattle.automaton.specs.Lists.{query_taken_by, lists_query, lists_record}
 use Rattle.validate.specs.Checks.{Answers}

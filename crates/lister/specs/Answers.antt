@@ -19,7 +19,7 @@ pub record Admits (q r names : List ℕ) (x : Input) : Type 0 where
   pub record_taken : x.ground ≡ 0 → (record_verdict r).ground ≡ 0
   pub steps_are : x.ground ≡ 0 → Holds names (steps_in q) x.steps.kinds x.steps.operands
 
-abbrev pub refusal : (ground place : ℕ) → Answer
+abbrev pub refusal : (ground : ℕ) (place : ℕ) → Answer
 refusal g p = record { ground = g; place = p; pairs = 0; peak = 0 }
 
 -- numbers that an answer has room for

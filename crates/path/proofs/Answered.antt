@@ -16,7 +16,7 @@ use Rattle.json_text.specs.Verdict.{max_depth, record_verdict}
 use Rattle.select.specs.Visits.{nodes}
 use Rattle.answers.specs.Finder.{end_among, end_at, end_in, offset_verdict, find_verdict, or_zero}
 use Rattle.answers.specs.Lister.{or_else}
-use Rattle.answers.specs.ListerIs.{refuses_first}
+use Rattle.answers.proofs.ListerIs.{refuses_first}
 use Rattle.answers.specs.Within.{RecordIs}
 use Rattle.answers.specs.WithinLaws.{record_is_taken, record_tree, taken_record}
 use Rattle.text.specs.Put.{put, Room, Written}

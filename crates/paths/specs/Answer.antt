@@ -81,7 +81,7 @@ unfolding path_if path_verdict trail_in
 path_written r at room = path_if (path_verdict r at room).ground (trail_in r at)
 
 -- the promise: ground, place and length, and the whole buffer afterwards
-pub record WritesPath («record» : List ℕ) (offset : ℕ) (before after : List ℕ) (ground place size : ℕ) : Type 0 where
+pub record WritesPath («record» : List ℕ) (offset : ℕ) (before after : List ℕ) (ground : ℕ) (place size : ℕ) : Type 0 where
   pub ground_is : ground ≡ (path_verdict «record» offset (length before)).ground
   pub place_is : place ≡ (path_verdict «record» offset (length before)).place
   pub size_is : size ≡ length (path_written «record» offset (length before))

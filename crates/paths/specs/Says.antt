@@ -7,9 +7,9 @@ use Rattle.answers.specs.FinderSays.{Begins, FinderSays}
 use Rattle.paths.specs.Halves.{FirstHalf}
 use Rattle.paths.specs.Normalized.{PathOf}
 
-pub data PathSays («record» : List ℕ) (offset : ℕ) (before : List ℕ) : (ground place size : ℕ) (after : List ℕ) → Type 0 where
+pub data PathSays («record» : List ℕ) (offset : ℕ) (before : List ℕ) : (ground : ℕ) (place size : ℕ) (after : List ℕ) → Type 0 where
   -- 4 to 6 and 8, as in the value finder
-  finder_refused : {ground place end : ℕ} → FinderSays «record» offset ground place end → 0 < ground
+  finder_refused : {ground : ℕ} {place end : ℕ} → FinderSays «record» offset ground place end → 0 < ground
       → PathSays «record» offset before ground place 0 before
   -- 9: a name on the path has half of a surrogate pair; the opening quote of the first such name
   half_name : (t : Tree) → RecordIs «record» t → (n : Node) → Begins t offset n → (q : ℕ) → FirstHalf t n q

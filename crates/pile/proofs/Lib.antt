@@ -1,1 +1,3 @@
+pub mod FrameDepthLaws
+pub mod PileLaws
 pub mod Frames

@@ -2,6 +2,4 @@ pub mod FrameDepth
 pub mod Pile
 pub mod Moves
 pub mod Due
-pub mod FrameDepthLaws
-pub mod PileLaws
 pub mod DueLaws

@@ -18,7 +18,7 @@ use Rattle.validate.specs.Nesting.{stack_of, room_at, stack_pop}
 use Rattle.validate.specs.Turns.{due_of, standing, turned, Ready, Turned}
 
 -- a ground and a place are those of the verdict (document 01, "Grounds for refusing")
-pub record Answers (v : Verdict) (ground place : ℕ) : Type 0 where
+pub record Answers (v : Verdict) (ground : ℕ) (place : ℕ) : Type 0 where
   pub ground_is : ground ≡ v.ground
   pub place_is : place ≡ v.place
 
@@ -60,7 +60,7 @@ module _ {v : Verdict} {s kinds : List ℕ} {i depth due : ℕ} (p : Reached v s
   pub ready : i < length s → Ready s kinds depth i
   ready h = record { inside = h; solid = p.solid h; sized = p.sized; shallow = p.shallow }
 
-  module _ {kinds' : List ℕ} {ground r depth' due' : ℕ} (t : Turned (standing s due kinds depth i) s i kinds' ground r depth' due') where
+  module _ {kinds' : List ℕ} {ground : ℕ} {r depth' due' : ℕ} (t : Turned (standing s due kinds depth i) s i kinds' ground r depth' due') where
     pub next_at : ground ≡ 0 → {j : ℕ} → Run blank s r j → Reached v s kinds' j depth' due'
     unfolding turned
     next_at e {j} g =
@@ -110,6 +110,6 @@ pub too_long : (s : List ℕ) → max_bytes < length s → Answers (record_verdi
 unfolding record_verdict
 too_long s h = rw (lt-leb (length s) max_bytes h, record_verdict) record { ground_is = refl; place_is = refl }
 
-pub short_enough : (s : List ℕ) {ground place : ℕ} → length s ≤ max_bytes → Answers (text_verdict s) ground place → Answers (record_verdict s) ground place
+pub short_enough : (s : List ℕ) {ground : ℕ} {place : ℕ} → length s ≤ max_bytes → Answers (text_verdict s) ground place → Answers (record_verdict s) ground place
 unfolding record_verdict
 short_enough s h a = rw (le-leb (length s) max_bytes h, record_verdict) a

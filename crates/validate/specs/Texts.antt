@@ -14,7 +14,7 @@ use Rattle.scalars.specs.Blanks.{past_blanks}
 use Rattle.validate.specs.Turns.{due_of, standing, Ready, Turned, TurnTo, led_turn}
 
 -- what a string comes to, where a value or a name is due, in any containers
-pub record Texted (s : List ℕ) (i depth due ground r depth' due' : ℕ) : Type 0 where
+pub record Texted (s : List ℕ) (i depth due : ℕ) (ground : ℕ) (r depth' due' : ℕ) : Type 0 where
   pub turned : (kinds : List ℕ) → Ready s kinds depth i → Turned (standing s due kinds depth i) s i kinds ground r depth' due'
 
 -- whether a string is a name

@@ -47,7 +47,7 @@ pub record Ready (s kinds : List ℕ) (depth i : ℕ) : Type 0 where
   pub shallow : depth ≤ max_depth
 
 -- what a turn from place i on comes to, v being the verdict from there on
-pub record Turned (v : Verdict) (s : List ℕ) (i : ℕ) (kinds : List ℕ) (ground r depth due : ℕ) : Type 0 where
+pub record Turned (v : Verdict) (s : List ℕ) (i : ℕ) (kinds : List ℕ) (ground : ℕ) (r depth due : ℕ) : Type 0 where
   pub forward : ground ≡ 0 → i < r
   pub within : r ≤ length s
   pub sized : length kinds ≡ max_depth
@@ -56,7 +56,7 @@ pub record Turned (v : Verdict) (s : List ℕ) (i : ℕ) (kinds : List ℕ) (gro
   pub same : v ≡ turned ground s due kinds depth r
 
 -- a turn to place r, or the refusal of the byte there
-pub record TurnTo (ok : Bool) (r depth due ground r' depth' due' : ℕ) : Type 0 where
+pub record TurnTo (ok : Bool) (r depth due : ℕ) (ground : ℕ) (r' depth' due' : ℕ) : Type 0 where
   pub ground_is : ground ≡ elim ok [ true ↦ 0 | false ↦ 5 ]
   pub place_is : r' ≡ r
   pub depth_is : depth' ≡ depth

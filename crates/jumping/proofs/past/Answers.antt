@@ -1,7 +1,7 @@
 -- After blanks stands a comma, before an item, or else the closing bracket of the innermost container, whose pair and frame go. Assumes nothing.
 use mathlib.Core.Bool.{true≢false}
 use native.Mathlib.Omega.{arith}
-use Rattle.pile.specs.PileLaws.{pops_few}
+use Rattle.pile.proofs.PileLaws.{pops_few}
 use Rattle.jumping.proofs.Items.{past_inside, past_comma, past_closed}
 use Rattle.pile.specs.DueLaws.{onward_lost, onward_passed, lost_farther, passed_farther, due_passed}
 use Rattle.jumping.proofs.past.Goals as goal

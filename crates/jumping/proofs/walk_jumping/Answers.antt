@@ -1,5 +1,5 @@
 use mathlib.Core.Path.{◌∙◌}
-use Rattle.pile.specs.PileLaws.{clear_sized}
+use Rattle.pile.proofs.PileLaws.{clear_sized}
 use Rattle.jumping.proofs.Root.{running_starts, running_on, walk_ends}
 use Rattle.jumping.proofs.walk_jumping.Goals as goal
 

@@ -9,7 +9,7 @@ use Rattle.paths.specs.Rendered.{put_label, put_labels, path_text}
 use Rattle.paths.specs.Whole.{WholeLabel, WholeLabels, none, more}
 use Rattle.paths.specs.Whole as W
 use Rattle.paths.specs.IndexTree.{position_written, position_of_lem}
-use Rattle.paths.specs.NameTree.{name_written, name_whole, name_of}
+use Rattle.paths.proofs.NameTree.{name_written, name_whole, name_of}
 
 -- one selector
 

@@ -13,9 +13,9 @@ use Rattle.select.specs.Nodes.{Label, Node, children, IsChild, same, down, root}
 use Rattle.select.specs.Picked.{Picked}
 use Rattle.answers.specs.Within.{RecordIs}
 use Rattle.paths.specs.Normalized.{labels_on, PathOf}
-use Rattle.paths.specs.NormalizedIs.{normalized_is}
+use Rattle.paths.proofs.NormalizedIs.{normalized_is}
 use Rattle.paths.specs.Queries.{PicksEqual}
-use Rattle.paths.specs.QueriesHold.{queries_hold}
+use Rattle.paths.proofs.QueriesHold.{queries_hold}
 use Rattle.paths.specs.Rendered.{path_text}
 use Rattle.paths.specs.Whole as W
 

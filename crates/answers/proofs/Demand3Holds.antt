@@ -22,7 +22,7 @@ use Rattle.answers.specs.Enumerates.{FirstsRise, Enumerates}
 use Rattle.answers.specs.EnumeratesLaws.{enumeration}
 use Rattle.answers.specs.Within.{QueryIs, RecordIs}
 use Rattle.answers.specs.ListerSays.{numbers, holding, all}
-use Rattle.answers.specs.ListerIs.{lists_outcome, lister_says_only}
+use Rattle.answers.proofs.ListerIs.{lists_outcome, lister_says_only}
 use Rattle.answers.specs.Demand3.{Given, Demand3}
 
 length-numbers : (ns : List Node) → length (numbers ns) ≡ 2 * length ns

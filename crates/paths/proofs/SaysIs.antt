@@ -15,17 +15,17 @@ use Rattle.select.specs.Nodes.{Node, IsNode, root}
 use Rattle.select.specs.Visits.{Visit}
 use Rattle.select.specs.Order.{node_unique}
 use Rattle.answers.specs.Lister.{or_else}
-use Rattle.answers.specs.ListerIs.{refuses_first}
+use Rattle.answers.proofs.ListerIs.{refuses_first}
 use Rattle.answers.specs.Finder.{find_verdict}
 use Rattle.answers.specs.FinderSays.{Begins, FinderSays, record_refused, no_value, found}
-use Rattle.answers.specs.FinderIs.{finder_says_only, finder_says}
+use Rattle.answers.proofs.FinderIs.{finder_says_only, finder_says}
 use Rattle.answers.specs.Within.{RecordIs}
 use Rattle.answers.specs.WithinLaws.{record_tree}
 use Rattle.paths.specs.Answer.{trail_among, trail_at, trail_in, path_of, first_half, half_verdict, room_verdict, trail_verdict, path_verdict}
 use Rattle.paths.specs.Answer.{path_if, path_written, WritesPath}
 use Rattle.paths.specs.HalvesAre.{first_half_is, whole_is}
 use Rattle.paths.specs.Normalized.{PathOf, labels_on}
-use Rattle.paths.specs.NormalizedIs.{normalized_is}
+use Rattle.paths.proofs.NormalizedIs.{normalized_is}
 use Rattle.paths.specs.Says.{PathSays, finder_refused, half_name, too_long, written}
 use Rattle.paths.specs.Trails.{Trail, trails_of}
 use Rattle.paths.specs.TrailsAre.{Leads, visited_is, leads_below, trail_unique, trail_to, labels_on_lem}

@@ -9,7 +9,7 @@ use Rattle.json_text.specs.Verdict.{max_depth}
 use Rattle.select.specs.Ways.{frame_if}
 use Rattle.automaton.specs.Tally.{Tally}
 use Rattle.pile.specs.FrameDepth.{narrowed, depth_in}
-use Rattle.pile.specs.FrameDepthLaws.{frame_depth, other_frame_depth}
+use Rattle.pile.proofs.FrameDepthLaws.{frame_depth, other_frame_depth}
 use Rattle.pile.specs.Pile.{Pile, pile, kept, counted, Sized, Open, Framed, shared, own, Level, ValuePassed, root, item}
 use Rattle.pile.specs.Moves.{Pops, other, topmost}
 

@@ -25,7 +25,7 @@ use Rattle.answers.specs.Lister.{or_else}
 use Rattle.answers.specs.Finder.{end_among, end_at, end_in, offset_verdict, find_verdict, or_zero, end_if, find_end, Finds, value_part, start_if, part_start}
 use Rattle.answers.specs.Within.{RecordIs}
 use Rattle.answers.specs.WithinLaws.{record_is_taken, record_tree}
-use Rattle.answers.specs.ListerIs.{refuses_first}
+use Rattle.answers.proofs.ListerIs.{refuses_first}
 use Rattle.answers.specs.FinderSays.{Begins, FinderSays, record_refused, no_value, found, ReaderSays, nothing, value}
 
 -- the end of the visited node that begins at a place, or none where no visited node does

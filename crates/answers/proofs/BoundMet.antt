@@ -30,10 +30,10 @@ use Rattle.select.proofs.PeakLevels.{peak_levels}
 use Rattle.select.proofs.PeakReached.{Along, frames_along, frames_plain, Turns, none, hit, miss, frames_turns, reached}
 use Rattle.select.specs.PileBound.{PlainThenDeep}
 use Rattle.answers.specs.Bound.{max_frames}
-use Rattle.answers.specs.BoundIs.{length-steps}
+use Rattle.answers.proofs.BoundIs.{length-steps}
 use Rattle.answers.specs.BoundReached.{Reaches, BoundsReached}
 use Rattle.answers.specs.Demand3.{Given}
-use Rattle.answers.specs.Demand3Holds.{demand3}
+use Rattle.answers.proofs.Demand3Holds.{demand3}
 use Rattle.answers.specs.Enumerates.{Enumerates}
 use Rattle.answers.specs.Lister.{Lists}
 use Rattle.answers.specs.Small.{query_append}

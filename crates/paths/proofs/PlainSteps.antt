@@ -13,7 +13,7 @@ use Rattle.select.specs.Reach.{Reach}
 use Rattle.select.specs.Reach as R
 use Rattle.select.specs.Order.{way_unique}
 use Rattle.select.specs.Visits.{Way}
-use Rattle.paths.specs.AsQuery.{plain_selector, plain_step}
+use Rattle.paths.proofs.AsQuery.{plain_selector, plain_step}
 use Rattle.paths.specs.Normalized.{labels_on}
 
 -- the labels on the way, the last one first

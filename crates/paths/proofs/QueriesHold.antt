@@ -9,10 +9,10 @@ use Rattle.select.specs.Nodes.{Label, Node, root}
 use Rattle.select.specs.Picked.{Picked}
 use Rattle.answers.specs.Within.{RecordIs, QueryIs}
 use Rattle.answers.specs.WithinLaws.{query_is_taken}
-use Rattle.paths.specs.AsQuery.{path_tree, path_steps, same_path}
+use Rattle.paths.proofs.AsQuery.{path_tree, path_steps, same_path}
 use Rattle.paths.specs.Fits.{AllFit, labels_fit}
 use Rattle.paths.specs.Normalized.{NormalizedPath, labels_on, PathOf}
-use Rattle.paths.specs.PlainSteps.{labels_unique, Led, plain_picked}
+use Rattle.paths.proofs.PlainSteps.{labels_unique, Led, plain_picked}
 use Rattle.paths.specs.Queries.{PicksEqual, Queries}
 
 module _ {r : List ℕ} {t : Tree} (x : RecordIs r t) where

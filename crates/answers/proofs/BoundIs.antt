@@ -23,7 +23,7 @@ use Rattle.select.specs.PileBoundOf.{pile_bound}
 use Rattle.answers.specs.Bound.{is_bound, at_most, bounded_if, frames_if, bounded, frames_bound, BoundsPile}
 use Rattle.answers.specs.BoundSays.{BoundSays, query_refused, deep_last, plain_alone, no_bound, PileStays}
 use Rattle.answers.specs.Lister.{Lists}
-use Rattle.answers.specs.ListerIs.{lists_say}
+use Rattle.answers.proofs.ListerIs.{lists_say}
 use Rattle.answers.specs.ListerSays.{ListerSays}
 use Rattle.answers.specs.ListerSays as lister
 use Rattle.answers.specs.Outcome.{Outcome}

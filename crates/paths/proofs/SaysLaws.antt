@@ -12,9 +12,9 @@ use Rattle.answers.specs.Within.{RecordIs}
 use Rattle.paths.specs.Answer.{WritesPath}
 use Rattle.paths.specs.Normalized.{labels_on, PathOf}
 use Rattle.paths.specs.Queries.{PicksEqual}
-use Rattle.paths.specs.QueriesHold.{queries_hold}
+use Rattle.paths.proofs.QueriesHold.{queries_hold}
 use Rattle.paths.specs.Says.{PathSays, finder_refused, half_name, too_long, written}
-use Rattle.paths.specs.SaysIs.{writes_say}
+use Rattle.paths.proofs.SaysIs.{writes_say}
 
 -- the first `size` bytes of the buffer are the path of the node at the offset, and the others are as before
 pub record PathStands («record» : List ℕ) (offset : ℕ) (before after : List ℕ) (size : ℕ) : Type 0 where

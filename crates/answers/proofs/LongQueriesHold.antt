@@ -10,7 +10,7 @@ use Rattle.query.proofs.ByNumberLaws.{early_fault, only_early_faults}
 use Rattle.query.specs.Verdict.{query_verdict}
 use Rattle.answers.specs.Lister.{or_else, input_verdict, spans_in, peak_in}
 use Rattle.answers.specs.Outcome.{Outcome, outcome, outcome_by, refused}
-use Rattle.answers.specs.ListerIs.{outcome_by_lem, refuses_first, refusal}
+use Rattle.answers.proofs.ListerIs.{outcome_by_lem, refuses_first, refusal}
 use Rattle.answers.specs.LongQueries.{outcome_by_number, LongQueries}
 
 -- the outcome by what is judged of the query

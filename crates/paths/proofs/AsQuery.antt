@@ -24,7 +24,7 @@ use Rattle.paths.specs.Normalized.{Escapable, backspace, form, line, carriage, t
 use Rattle.paths.specs.Normalized.{LowerHex, digit, letter, Control, up_to_7, b, e_to_f, from_10, put_control, control_point}
 use Rattle.paths.specs.Normalized.{Char, low, mid, high, wide, escaped, control, put_char, put_chars, char_point}
 use Rattle.paths.specs.Normalized.{Selector, name, index, Path, put_selector, put_path, text, selector_label, NormalizedPath}
-use Rattle.paths.specs.NormalizedIs.{normalized_is}
+use Rattle.paths.proofs.NormalizedIs.{normalized_is}
 use Rattle.paths.specs.Rendered.{path_text}
 
 -- the step that takes what has this label, and nothing else
