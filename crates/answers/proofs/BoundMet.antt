@@ -28,7 +28,7 @@ use Rattle.select.proofs.PeakBound.{plain_then_deep, plain_only}
 use Rattle.select.proofs.PeakIs.{peak_unique}
 use Rattle.select.proofs.PeakLevels.{peak_levels}
 use Rattle.select.proofs.PeakReached.{Along, frames_along, frames_plain, Turns, none, hit, miss, frames_turns, reached}
-use Rattle.select.specs.PileBound.{PlainThenDeep}
+use Rattle.select.specs.PileBound.{PlainBeforeDeep}
 use Rattle.answers.specs.Bound.{max_frames}
 use Rattle.answers.proofs.BoundIs.{length-steps}
 use Rattle.answers.specs.BoundReached.{Reaches, BoundsReached}
@@ -188,7 +188,7 @@ a_taken n h = record_taken only_a (λ i s. refl) n h
 
 -- ---- plain steps and then deep ones
 
-deep_last_lem : (p d : ℕ) → 0 < d → p + d ≤ max_steps → (q : Query) × (h : PlainThenDeep (steps_of q)) × (length h.plain ≡ p) × (length h.deep ≡ d)
+deep_last_lem : (p d : ℕ) → 0 < d → p + d ≤ max_steps → (q : Query) × (h : PlainBeforeDeep (steps_of q)) × (length h.plain ≡ p) × (length h.deep ≡ d)
     × (k : ℕ) × (k + 1 ≡ p + d) × Reaches q k
 deep_last_lem p d some few = (
   asked p d,
@@ -211,7 +211,7 @@ deep_last_lem p d some few = (
     one_more : k + 1 ≡ p + d
     one_more = omega arith
 
-    parts : PlainThenDeep (steps_of (asked p d))
+    parts : PlainBeforeDeep (steps_of (asked p d))
     parts = record {
       plain = steps_of (steps Q.plain p);
       deep = steps_of (steps Q.deep d);

@@ -6,7 +6,7 @@ use Rattle.query.specs.Grammar.{Query, steps_of}
 use Rattle.query.specs.Grammar as Q
 use Rattle.query.specs.Verdict.{max_steps}
 use Rattle.select.specs.Marks.{Peak, AllSteps}
-use Rattle.select.specs.PileBound.{PlainThenDeep, PlainBehindDeep}
+use Rattle.select.specs.PileBound.{PlainBeforeDeep, PlainBehindDeep}
 use Rattle.answers.specs.Bound.{max_frames}
 use Rattle.answers.specs.Within.{QueryIs, RecordIs}
 
@@ -20,7 +20,7 @@ pub record Reaches (q : Query) (k : ℕ) : Type 0 where
 pub record BoundsReached : Type 0 where
   -- by p plain steps followed by d deep steps: one fewer than the steps
   pub deep_last_lem : (p d : ℕ) → 0 < d → p + d ≤ max_steps →
-      (q : Query) × (h : PlainThenDeep (steps_of q)) × (length h.plain ≡ p) × (length h.deep ≡ d) × (k : ℕ) × (k + 1 ≡ p + d) × Reaches q k
+      (q : Query) × (h : PlainBeforeDeep (steps_of q)) × (length h.plain ≡ p) × (length h.deep ≡ d) × (k : ℕ) × (k + 1 ≡ p + d) × Reaches q k
   -- by n plain steps alone: their number
   pub plain_alone_lem : (n : ℕ) → n ≤ max_steps → (q : Query) × AllSteps false (steps_of q) × (length q ≡ n) × Reaches q n
   -- by two steps, a plain one behind a deep one: every number for which a record has room, so that no smaller one bounds them

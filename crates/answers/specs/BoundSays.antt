@@ -4,7 +4,7 @@ use Rattle.encoding.specs.Verdict.{Verdict}
 use Rattle.query.specs.Grammar.{Query, steps_of}
 use Rattle.query.specs.Verdict.{QuerySays}
 use Rattle.select.specs.Marks.{AllSteps, DeepPeak}
-use Rattle.select.specs.PileBound.{PlainThenDeep, PlainBehindDeep}
+use Rattle.select.specs.PileBound.{PlainBeforeDeep, PlainBehindDeep}
 use Rattle.answers.specs.Bound.{max_frames}
 use Rattle.answers.specs.Within.{QueryIs}
 
@@ -13,7 +13,7 @@ pub data BoundSays (query : List ℕ) : (ground : ℕ) (place : ℕ) → (bounde
   -- 1 to 3: what the verdict says of the query
   query_refused : (v : Verdict) → QuerySays query v → 0 < v.ground → BoundSays query v.ground v.place false 0
   -- plain steps followed by one or more deep steps: one fewer than its steps
-  deep_last : (q : Query) → QueryIs query q → PlainThenDeep (steps_of q) → (k : ℕ) → k + 1 ≡ length q → BoundSays query 0 0 true k
+  deep_last : (q : Query) → QueryIs query q → PlainBeforeDeep (steps_of q) → (k : ℕ) → k + 1 ≡ length q → BoundSays query 0 0 true k
   -- plain steps alone: their number
   plain_alone : (q : Query) → QueryIs query q → AllSteps false (steps_of q) → BoundSays query 0 0 true (length q)
   -- a plain step behind a deep one: the steps give no bound
@@ -22,7 +22,7 @@ pub data BoundSays (query : List ℕ) : (ground : ℕ) (place : ℕ) → (bounde
 -- change request S-6, of a query and a peak
 pub record PileStays (q : Query) (peak : ℕ) : Type 0 where
   -- "For a query of plain steps followed by one or more deep steps, the peak is at most one fewer than its steps."
-  pub deep_last_lem : PlainThenDeep (steps_of q) → peak + 1 ≤ length q
+  pub deep_last_lem : PlainBeforeDeep (steps_of q) → peak + 1 ≤ length q
   -- "For plain steps alone it is at most their number."
   pub plain_alone_lem : AllSteps false (steps_of q) → peak ≤ length q
   -- "where Q has only deep steps the peak .. is at most one fewer than Q has steps, or none for no step" (demand 3)

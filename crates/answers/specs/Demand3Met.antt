@@ -18,7 +18,11 @@ use Rattle.answers.specs.Enumerates.{Enumerates}
 use Rattle.answers.specs.EnumeratesLaws.{enumerates_spans}
 use Rattle.answers.specs.Demand3.{Given}
 use Rattle.answers.specs.Table.{Row, old, table}
-use Rattle.answers.specs.Trees.{byte, step, tight, alone, digit, member, a, named, steps, levels}
+use Rattle.answers.specs.Trees.{byte, step, tight, alone, digit, member, a, named, steps as steps_of_depth, levels}
+
+-- $.a.a .., with so many steps
+abbrev steps : ℕ → Query
+steps n = steps_of_depth Q.plain n
 
 -- nodes are counted by computing
 count : {t : Tree} {q : List Step} {ns : List Node} → Enumerates t q ns → length ns ≡ length (spans t q)
@@ -50,18 +54,18 @@ abbrev M : Char
 M = J.mid (byte 0x4D tt)
 
 -- both at their limit, and one node
-pub limits_met : Given (steps Q.plain max_steps) (alone (levels max_depth)) (91 ∷ 92 ∷ [])
+pub limits_met : Given (steps max_steps) (alone (levels max_depth)) (91 ∷ 92 ∷ [])
 unfolding within
-limits_met = given (steps Q.plain max_steps) (alone (levels max_depth)) (91 ∷ 92 ∷ []) refl
+limits_met = given (steps max_steps) (alone (levels max_depth)) (91 ∷ 92 ∷ []) refl
 
-pub steps_at_limit : length (steps Q.plain max_steps) ≡ max_steps
+pub steps_at_limit : length (steps max_steps) ≡ max_steps
 steps_at_limit = refl
 
 pub levels_at_limit : nesting (levels max_depth) ≡ max_depth
 unfolding nesting
 levels_at_limit = refl
 
-pub one_node_at_limits : (ns : List Node) → Enumerates (alone (levels max_depth)) (steps_of (steps Q.plain max_steps)) ns → length ns ≡ 1
+pub one_node_at_limits : (ns : List Node) → Enumerates (alone (levels max_depth)) (steps_of (steps max_steps)) ns → length ns ≡ 1
 unfolding spans steps_of
 one_node_at_limits ns x = count x
 

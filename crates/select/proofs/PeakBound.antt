@@ -22,7 +22,7 @@ use Rattle.select.specs.Ways.{mark, same_marks, frame_if, frames, peak}
 use Rattle.select.specs.MarksStep.{mark_root_suc, mark_less, Origin, mark_origin}
 use Rattle.select.proofs.MarksAre.{mark_below}
 use Rattle.select.proofs.PeakIs.{most_bound, peak_is, peak_unique}
-use Rattle.select.specs.PileBound.{PlainThenDeep, PileBound, deep, plain, mixed}
+use Rattle.select.specs.PileBound.{PlainBeforeDeep, PileBound, deep, plain, mixed}
 
 abbrev one : Bool → ℕ
 one true = 1
@@ -93,11 +93,11 @@ module _ (q : List Step) (w w' : Way) (grow : (i : ℕ) → mark q i w ≡ true 
       go false false h e rest = omega (arith, rest e)
 
 -- p plain steps, and then deep ones
-record PlainUpTo (p : ℕ) (q : List Step) : Type 0 where
-  plain : (i : ℕ) → i < p → is_deep (get_elem? q i) ≡ false
-  deep : (i : ℕ) → p ≤ i → i < length q → is_deep (get_elem? q i) ≡ true
+pub record PlainThenDeep (p : ℕ) (q : List Step) : Type 0 where
+  pub plain : (i : ℕ) → i < p → is_deep (get_elem? q i) ≡ false
+  pub deep : (i : ℕ) → p ≤ i → i < length q → is_deep (get_elem? q i) ≡ true
 
-module _ (p : ℕ) (q : List Step) (kinds : PlainUpTo p q) where
+module _ (p : ℕ) (q : List Step) (kinds : PlainThenDeep p q) where
   -- among the plain steps: at most the mark of the depth
   record Early (w : Way) : Type 0 where
     short : length w < p
@@ -177,7 +177,7 @@ module _ (p : ℕ) (q : List Step) (kinds : PlainUpTo p q) where
       go (inl h) = early_step l w h
       go (inr h) = inr (late_step l w h)
 
-  frames_bound : (w : Way) → frames q w ≤ max p (length q - 1)
+  pub frames_bound : (w : Way) → frames q w ≤ max p (length q - 1)
   frames_bound w = go (kept w)
     where
       go : Early w ⊎ Late w → frames q w ≤ max p (length q - 1)
@@ -185,7 +185,7 @@ module _ (p : ℕ) (q : List Step) (kinds : PlainUpTo p q) where
       go (inr h) = omega (arith, h.few, count_low q p (length q) w h.low)
 
 -- the bound for p plain steps and then deep ones
-peak_bound : (t : Tree) (q : List Step) (k p : ℕ) → PlainUpTo p q → Peak t q k → k ≤ max p (length q - 1)
+pub peak_bound : (t : Tree) (q : List Step) (k p : ℕ) → PlainThenDeep p q → Peak t q k → k ≤ max p (length q - 1)
 unfolding peak
 peak_bound t q k p h x =
     omega (arith, peak_unique x (peak_is t q), most_bound q (max p (length q - 1)) (nodes t) (λ v m. frames_bound p q h v.state))
@@ -195,24 +195,24 @@ step_kind d [] h i k = absurd (omega arith)
 step_kind d (s ∷ q) h zero k = h s (Memᴰ.head refl)
 step_kind d (s ∷ q) h (suc i) k = step_kind d q (λ x m. h x (Memᴰ.tail m)) i (omega arith)
 
-up_to : (p d : List Step) → AllSteps false p → AllSteps true d → PlainUpTo (length p) (p ++ d)
+up_to : (p d : List Step) → AllSteps false p → AllSteps true d → PlainThenDeep (length p) (p ++ d)
 up_to [] d f g = record { plain = λ i l. absurd (omega arith); deep = λ i l m. step_kind true d g i m }
 up_to (s ∷ p) d f g =
     let rest = up_to p d (λ x m. f x (Memᴰ.tail m)) g in
     record { plain = first rest; deep = later rest }
   where
-    first : PlainUpTo (length p) (p ++ d) → (i : ℕ) → i < suc (length p) → is_deep (get_elem? (s ∷ p ++ d) i) ≡ false
+    first : PlainThenDeep (length p) (p ++ d) → (i : ℕ) → i < suc (length p) → is_deep (get_elem? (s ∷ p ++ d) i) ≡ false
     first rest zero l = f s (Memᴰ.head refl)
     first rest (suc i) l = rest.plain i (omega arith)
 
-    later : PlainUpTo (length p) (p ++ d) → (i : ℕ) → suc (length p) ≤ i → i < suc (length (p ++ d)) → is_deep (get_elem? (s ∷ p ++ d) i) ≡ true
+    later : PlainThenDeep (length p) (p ++ d) → (i : ℕ) → suc (length p) ≤ i → i < suc (length (p ++ d)) → is_deep (get_elem? (s ∷ p ++ d) i) ≡ true
     later rest zero l m = absurd (omega arith)
     later rest (suc i) l m = rest.deep i (omega arith) (omega arith)
 
 -- of plain steps followed by one or more deep ones: at most one fewer than the steps
-pub plain_then_deep : (t : Tree) (q : List Step) (k : ℕ) → PlainThenDeep q → Peak t q k → k + 1 ≤ length q
+pub plain_then_deep : (t : Tree) (q : List Step) (k : ℕ) → PlainBeforeDeep q → Peak t q k → k + 1 ≤ length q
 plain_then_deep t q k h x =
-    let kinds = subst (PlainUpTo (length h.plain)) (sym h.parts) (up_to h.plain h.deep h.all_plain h.all_deep) in
+    let kinds = subst (PlainThenDeep (length h.plain)) (sym h.parts) (up_to h.plain h.deep h.all_plain h.all_deep) in
     omega (arith, peak_bound t q k (length h.plain) kinds x, h.some_deep, ap length h.parts, length-append h.plain h.deep)
 
 -- of deep steps only: the same, or none for no step
@@ -224,7 +224,7 @@ deep_only t q k h x =
 -- of plain steps only: at most the steps
 pub plain_only : (t : Tree) (q : List Step) (k : ℕ) → AllSteps false q → Peak t q k → k ≤ length q
 plain_only t q k h x =
-    let kinds : PlainUpTo (length q) q = record { plain = step_kind false q h; deep = λ i l m. absurd (omega arith) } in
+    let kinds : PlainThenDeep (length q) q = record { plain = step_kind false q h; deep = λ i l m. absurd (omega arith) } in
     omega (arith, peak_bound t q k (length q) kinds x)
 
 -- so a bound by the steps holds in every record

@@ -5,7 +5,7 @@ use Rattle.query.specs.Steps.{Step}
 use Rattle.select.specs.Marks.{AllSteps}
 
 -- "a query of plain steps followed by one or more deep steps"
-pub record PlainThenDeep (q : List Step) : Type 0 where
+pub record PlainBeforeDeep (q : List Step) : Type 0 where
   pub plain : List Step
   pub deep : List Step
   pub parts : q ≡ plain ++ deep
@@ -27,7 +27,7 @@ pub record PlainBehindDeep (q : List Step) : Type 0 where
 -- what the steps say of the peak: that it is at most so much, or nothing
 pub data PileBound (q : List Step) : Option ℕ → Type 0 where
   -- "at most one fewer than its steps"
-  deep : {k : ℕ} → PlainThenDeep q → k + 1 ≡ length q → PileBound q (some k)
+  deep : {k : ℕ} → PlainBeforeDeep q → k + 1 ≡ length q → PileBound q (some k)
   -- "For plain steps alone it is at most their number", which is 0 where there is no step
   plain : AllSteps false q → PileBound q (some (length q))
   -- the steps say nothing

@@ -18,6 +18,12 @@ pub const CASES: &str = include_str!("../../../crates/samples/stdin");
 /// Where its output stands in the repository.
 pub const OUTPUT: &str = "crates/samples/stdout";
 
+/// The cases of `pile_samples`.
+pub const PILE_CASES: &str = include_str!("../../../crates/pile_samples/stdin");
+
+/// Where its output stands in the repository.
+pub const PILE_OUTPUT: &str = "crates/pile_samples/stdout";
+
 /// What a list holds before a call, at each place.
 const OLD: u32 = 7777;
 

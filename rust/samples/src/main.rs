@@ -1,13 +1,14 @@
-//! Makes what the programs `samples` and `picklist_cases` have to print: `samples` writes it,
+//! Makes what the programs `samples`, `pile_samples` and `picklist_cases` have to print: `samples` writes it,
 //! `samples --check` compares it with what stands in the repository.
 
 use std::path::{Path, PathBuf};
 use std::{env, fs, process::ExitCode};
 
 /// The files of the repository, and what each has to hold.
-fn files() -> [(&'static str, Result<String, String>); 2] {
+fn files() -> [(&'static str, Result<String, String>); 3] {
     [
         (samples::OUTPUT, samples::output(samples::CASES)),
+        (samples::PILE_OUTPUT, samples::output(samples::PILE_CASES)),
         (samples::picklist::OUTPUT, samples::picklist::output(samples::picklist::CASES)),
     ]
 }

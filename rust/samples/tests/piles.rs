@@ -1,6 +1,6 @@
 //! Lines of bounds on the pile in a file of cases, written by hand from change request S-6.
 
-use samples::{output, CASES};
+use samples::{output, PILE_CASES};
 
 /// A file with what stands below its lines.
 const FILE: &str = r#"# no step, plain ones, and deep ones behind them
@@ -57,7 +57,7 @@ fn lines_that_cannot_be_read() {
     }
 }
 
-/// Queries in the cases of `samples`, and the four answers on each: every order of three steps, and both
+/// Queries in the cases of `pile_samples`, and the four answers on each: every order of three steps, and both
 /// sides of every limit.
 const BOUNDS: &[(&str, &str)] = &[
     ("$", "0 0 1 0"),
@@ -103,7 +103,7 @@ const BOUNDS: &[(&str, &str)] = &[
 
 #[test]
 fn the_output_has_the_bounds() {
-    let output = output(CASES).unwrap();
+    let output = output(PILE_CASES).unwrap();
     for (query, answers) in BOUNDS {
         let lines = format!("\nframes {query}\n  frames {answers}\n");
         assert!(output.contains(&lines), "{lines}");

@@ -1,6 +1,6 @@
 //! Answers in the output of `samples`, written by hand from document 01.
 
-use samples::{notation, output, CASES};
+use samples::{notation, output, CASES, PILE_CASES};
 
 /// A query of the output with what stands above and below it: the record and the numbers of the
 /// list, as they are written, and the line of each walk.
@@ -11,8 +11,8 @@ struct Run {
     walks: [String; 2],
 }
 
-fn runs() -> Vec<Run> {
-    let output = output(CASES).unwrap();
+fn runs(cases: &str) -> Vec<Run> {
+    let output = output(cases).unwrap();
     let (mut record, mut numbers, mut runs) = (String::new(), String::new(), Vec::new());
     let mut lines = output.lines();
     while let Some(line) = lines.next() {
@@ -95,10 +95,6 @@ const LIMITS: &[Row] = &[
     ("$..a.b", r#"~255([){"a":{"b":7},"b":8}~255(])"#, 4, "0 0 1 1", " 265 266 rest 2"),
     ("$..a.b", r#"~510([){"a":{"b":7},"b":8}~510(])"#, 4, "0 0 1 1", " 520 521 rest 2"),
     ("$..a.b", r#"{"a":[~255([){"x":[7],"b":8}~255(])]}"#, 4, "0 0 0 2", " rest 4"),
-    ("$~16(.a)", r#"~17({"a":)7~17(})"#, 4, "0 0 1 16", " 80 87 rest 2"),
-    ("$~16(..a)", r#"~17({"a":)7~17(})"#, 4, "0 0 2 15", " 80 87 85 86 rest 0"),
-    ("$..a.b.c", r#"~256({"a":{"b":)7~512(})"#, 4, "0 0 0 511", " rest 4"),
-    ("$..a.b.c", r#"~256({"a":{"b":)[7]~512(})"#, 4, "6 2560 0 0", " rest 4"),
     ("$..*", "~512([)", 2, "5 512 0 0", " rest 2"),
     ("$..*", "~513([)", 2, "6 512 0 0", " rest 2"),
     ("$.*", r#"{"a":1,"b":[2],"c":"3"}"#, 6, "0 0 3 1", " 5 6 11 14 19 22 rest 0"),
@@ -108,6 +104,14 @@ const LIMITS: &[Row] = &[
     ("$.*", r#"[["]~59(x)"],5]"#, 8, "0 0 2 1", " 1 65 66 67 rest 4"),
     ("$.*", r#"[["]~60(x)"],5]"#, 8, "0 0 2 1", " 1 66 67 68 rest 4"),
     ("$.*", r#"[["]~59(x)\"]"],5]"#, 8, "0 0 2 1", " 1 68 69 70 rest 4"),
+];
+
+/// Piles at the bounds of their queries, and without one.
+const PILES: &[Row] = &[
+    ("$~16(.a)", r#"~17({"a":)7~17(})"#, 4, "0 0 1 16", " 80 87 rest 2"),
+    ("$~16(..a)", r#"~17({"a":)7~17(})"#, 4, "0 0 2 15", " 80 87 85 86 rest 0"),
+    ("$..a.b.c", r#"~256({"a":{"b":)7~512(})"#, 4, "0 0 0 511", " rest 4"),
+    ("$..a.b.c", r#"~256({"a":{"b":)[7]~512(})"#, 4, "6 2560 0 0", " rest 4"),
 ];
 
 /// Small dead containers, at the end of a block that begins behind the first one's bracket.
@@ -141,7 +145,7 @@ impl Run {
 
 #[test]
 fn the_output_begins_with_the_sample_rows() {
-    let runs = runs();
+    let runs = runs(CASES);
     for (run, row) in runs.iter().zip(ROWS) {
         assert!(run.is(row), "{row:?}");
     }
@@ -150,8 +154,16 @@ fn the_output_begins_with_the_sample_rows() {
 
 #[test]
 fn the_output_has_the_limits_and_the_leaps() {
-    let runs = runs();
+    let runs = runs(CASES);
     for row in LIMITS.iter().chain(LEAPS) {
+        assert!(runs.iter().any(|run| run.is(row)), "{row:?}");
+    }
+}
+
+#[test]
+fn the_output_has_the_piles() {
+    let runs = runs(PILE_CASES);
+    for row in PILES {
         assert!(runs.iter().any(|run| run.is(row)), "{row:?}");
     }
 }
@@ -169,5 +181,6 @@ fn the_output_has_the_values() {
 
 #[test]
 fn the_number_of_cases() {
-    assert!(output(CASES).unwrap().ends_with("\n610 cases\n"));
+    assert!(output(CASES).unwrap().ends_with("\n555 cases\n"));
+    assert!(output(PILE_CASES).unwrap().ends_with("\n55 cases\n"));
 }
