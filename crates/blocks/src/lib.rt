@@ -164,7 +164,8 @@ fn odd_after(rest: &[u8], odd: bool) -> bool
     let mut run = odd;
     let mut i: usize = 0;
     while i < rest.len() {
-        run = rest[i] == BACKSLASH && !run;
+        let byte = rest[i];
+        run = byte == BACKSLASH && !run;
         i += 1;
     }
     run

@@ -131,7 +131,8 @@ pub fn read_query(query: &[u8], names: &mut Names) -> Outcome
         let StepRead::Taken(found, after) = read else {
             return refuse(WRONG, query_steps::place_of(read));
         };
-        if steps.kinds.count == compiled::MAX_STEPS {
+        let full = steps.kinds.count == compiled::MAX_STEPS;
+        if full {
             return too_many(&rows, query, found.place, after);
         }
         let one = compiled::entry_of(query, found, names);

@@ -2,7 +2,7 @@ use Rattle.blocks.specs.Words.{odd_before}
 use Rattle.classifier.specs.Classes.{byte_at, is_backslash}
 use Rattle.std.proofs.Common.{◌≡◌, ℕ, ◌+◌, ◌-◌, Bool, false, not, List, length, sym, refl, ap, ◌∙◌, ⊎_elim, add-one, arith, ne_eqb}
 use Rattle.blocks.proofs.odd_after.Goals as goal
-use Rattle.blocks.proofs.odd_after.Goals.{then-rest-i-eq-BACKSLASH, else-rest-i-eq-BACKSLASH}
+use Rattle.blocks.proofs.odd_after.Goals.{then-byte-eq-BACKSLASH, else-byte-eq-BACKSLASH}
 
 -- a backslash turns the run over
 on-run : (odd : Bool) (s : List ℕ) (i : ℕ) (run : Bool) → byte_at s i ≡ 0x5C → run ≡ odd_before odd s i → not run ≡ odd_before odd s (i + 1)
@@ -22,9 +22,9 @@ pub loop-i-preserved : goal.loop-i-preserved
 unfolding byte_at
 loop-i-preserved c = (
   omega arith,
-  elim c.if-rest-i-eq-BACKSLASH.branch [
-    | then-rest-i-eq-BACKSLASH w ↦ w.run-is ∙ on-run _ _ _ _ w.if-rest-i-eq-BACKSLASH.true c.loop-i.invariant.1
-    | else-rest-i-eq-BACKSLASH w ↦ w.run-is ∙ ne_eqb _ 0x5C w.if-rest-i-eq-BACKSLASH.false ∙ off-run _ _ _ w.if-rest-i-eq-BACKSLASH.false
+  elim c.if-byte-eq-BACKSLASH.branch [
+    | then-byte-eq-BACKSLASH w ↦ w.run-is ∙ on-run _ _ _ _ w.if-byte-eq-BACKSLASH.true c.loop-i.invariant.1
+    | else-byte-eq-BACKSLASH w ↦ w.run-is ∙ ne_eqb _ 0x5C w.if-byte-eq-BACKSLASH.false ∙ off-run _ _ _ w.if-byte-eq-BACKSLASH.false
   ],
 )
 

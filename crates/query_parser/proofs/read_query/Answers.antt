@@ -36,8 +36,8 @@ too_many-requires c =
     let t = step_taken c.read_step-read.ensures c.in-Taken.is in
     (t.within, c.loop-at.invariant.1)
 
-pub returns-then-steps-eq-MAX_STEPS : goal.returns-then-steps-eq-MAX_STEPS
-returns-then-steps-eq-MAX_STEPS c =
+pub returns-then-full : goal.returns-then-full
+returns-then-full c =
     let t = step_taken c.read_step-read.ensures c.in-Taken.is in
     so_far_many c.loop-at.invariant.0 t (omega (arith, c.loop-at.invariant.0.held.holds.fits.few)) c.too_many.ensures
 
@@ -47,7 +47,7 @@ entry_of-one-requires c =
     so_far_stands c.loop-at.invariant.0 t
 
 pub add-steps-requires : goal.add-steps-requires
-add-steps-requires c = so_far_room c.loop-at.invariant.0 c.if-steps-eq-MAX_STEPS.false
+add-steps-requires c = so_far_room c.loop-at.invariant.0 c.if-full.false
 
 pub loop-at-smaller : goal.loop-at-smaller
 loop-at-smaller c =
