@@ -101,7 +101,8 @@ pub fn same_decoded(
     let mut j = x;
     while j < y {
         let written = record[j];
-        if written == BACKSLASH {
+        let escape = written == BACKSLASH;
+        if escape {
             let e = escape_at(record, j, y);
             i = after_point(names, i, to, e.point);
             j += e.size;

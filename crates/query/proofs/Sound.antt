@@ -13,7 +13,7 @@ use Rattle.encoding.specs.Utf8 as U
 use Rattle.encoding.specs.Utf8.{Wide, put_wide, any_tail, second_low, second_high}
 use Rattle.encoding.specs.Utf8Laws.{Tails}
 use Rattle.query.specs.Escapes as E
-use Rattle.query.specs.Escapes.{Escape, escape_byte, NotD, not_dByte, D, d_byte, EightToB, eight_to_bByte, c_to_fByte, HexChar, put_hex_char}
+use Rattle.query.specs.Escapes.{Escape, escape_byte, NotD, not_d_byte, D, d_byte, EightToB, eight_to_b_byte, c_to_f_byte, HexChar, put_hex_char}
 use Rattle.query.specs.Grammar as G
 use Rattle.query.specs.Grammar.{First, Later, Quote, Char, quote_byte, position_of, max_position, Short, Inner, Depth, Segment, Query, QueryText}
 use Rattle.query.specs.Grammar.{put_first, put_laters, put_char, put_chars, put_short, put_inner, put_segment, put_spaced, put_query, text}
@@ -76,7 +76,7 @@ HexDigits zero L = L
 HexDigits (suc n) L = Writes hex_byte (HexDigits n L)
 
 abbrev LowDigit : Quote → List ℕ → Type 0
-LowDigit q = Writes c_to_fByte (HexDigits 2 (Quoted q))
+LowDigit q = Writes c_to_f_byte (HexDigits 2 (Quoted q))
 
 abbrev LowD : Quote → List ℕ → Type 0
 LowD q = Writes d_byte (LowDigit q)
@@ -86,7 +86,7 @@ LowHalf q = Byte 0x5C (Byte 0x75 (LowD q))
 
 data BehindD (q : Quote) : List ℕ → Type 0 where
   below : {u : List ℕ} (y : In 0x30 0x37) → HexDigits 2 (Quoted q) u → BehindD q (y.byte ∷ u)
-  high : {u : List ℕ} (y : EightToB) → HexDigits 2 (LowHalf q) u → BehindD q (eight_to_bByte y ∷ u)
+  high : {u : List ℕ} (y : EightToB) → HexDigits 2 (LowHalf q) u → BehindD q (eight_to_b_byte y ∷ u)
 
 data BehindU (q : Quote) : List ℕ → Type 0 where
   hex_char : {u : List ℕ} (x : HexChar) → Quoted q u → BehindU q (put_hex_char x u)
@@ -353,7 +353,7 @@ module _ (q : Quote) where
 
   -- the first digit behind `\u`
 
-  usual : (x : NotD) (s : List ℕ) → HexDigits 3 (Quoted q) s → BehindU q (not_dByte x ∷ s)
+  usual : (x : NotD) (s : List ℕ) → HexDigits 3 (Quoted q) s → BehindU q (not_d_byte x ∷ s)
   unfolding put_hex_char
   usual x s (writes y (writes z (writes w r))) = hex_char (E.usual x y z w) r
 

@@ -11,7 +11,7 @@ use Rattle.encoding.specs.Hex.{Hex, hex_byte}
 use Rattle.encoding.specs.Utf8 as U
 use Rattle.encoding.specs.Utf8.{Wide, Tail, put_wide, Second, any_tail, after_e0, after_ed, after_f0, after_f4, second_low, second_high}
 use Rattle.query.specs.Escapes as E
-use Rattle.query.specs.Escapes.{Escape, escape_byte, NotD, not_dByte, D, d_byte, EightToB, eight_to_bByte, CToF, c_to_fByte, HexChar, put_hex_char}
+use Rattle.query.specs.Escapes.{Escape, escape_byte, NotD, not_d_byte, D, d_byte, EightToB, eight_to_b_byte, CToF, c_to_f_byte, HexChar, put_hex_char}
 use Rattle.query.specs.Grammar as G
 use Rattle.query.specs.Grammar.{First, Later, Quote, quote_byte, Char}
 use Rattle.query.specs.Grammar.{put_first, put_later, put_laters, put_char, put_chars}
@@ -157,7 +157,7 @@ leads_d c k e f E.upper = e
 leads_d c k e f E.lower = f
 
 module _ (q : Quote) where
-  leads_not_d : (x : NotD) → step (at (in_escape M.first q)) (not_dByte x) ≡ at (in_escape (digits 2) q)
+  leads_not_d : (x : NotD) → step (at (in_escape M.first q)) (not_d_byte x) ≡ at (in_escape (digits 2) q)
   unfolding landing
   leads_not_d (E.digit x) = leads_in (in_escape M.first q) x _ refl
   leads_not_d (E.upper_a_c x) = leads_in (in_escape M.first q) x _ refl
@@ -165,13 +165,13 @@ module _ (q : Quote) where
   leads_not_d (E.lower_a_c x) = leads_in (in_escape M.first q) x _ refl
   leads_not_d (E.lower_e_f x) = leads_in (in_escape M.first q) x _ refl
 
-  leads_high : (y : EightToB) → step (at (in_escape behind_d_of q)) (eight_to_bByte y) ≡ at (in_escape (high_digits_of 1) q)
+  leads_high : (y : EightToB) → step (at (in_escape behind_d_of q)) (eight_to_b_byte y) ≡ at (in_escape (high_digits_of 1) q)
   unfolding landing
   leads_high (E.digit y) = leads_in (in_escape behind_d_of q) y _ refl
   leads_high (E.upper y) = leads_in (in_escape behind_d_of q) y _ refl
   leads_high (E.lower y) = leads_in (in_escape behind_d_of q) y _ refl
 
-  leads_low : (y : CToF) → step (at (in_escape low_digit q)) (c_to_fByte y) ≡ at (in_escape (digits 1) q)
+  leads_low : (y : CToF) → step (at (in_escape low_digit q)) (c_to_f_byte y) ≡ at (in_escape (digits 1) q)
   unfolding landing
   leads_low (E.upper y) = leads_in (in_escape low_digit q) y _ refl
   leads_low (E.lower y) = leads_in (in_escape low_digit q) y _ refl
@@ -182,25 +182,25 @@ module _ (q : Quote) where
       spells_hex _ (in_escape (digits 0) q) _ refl refl z _ (spells_hex _ (inside (quoted q)) _ refl refl w [] (spells_nil (inside (quoted q))))
 
   spells_low : (x : D) (y : CToF) (z w : Hex) →
-      Spells (in_escape low_backslash q) (0x5C ∷ 0x75 ∷ d_byte x ∷ c_to_fByte y ∷ hex_byte z ∷ hex_byte w ∷ []) (inside (quoted q))
+      Spells (in_escape low_backslash q) (0x5C ∷ 0x75 ∷ d_byte x ∷ c_to_f_byte y ∷ hex_byte z ∷ hex_byte w ∷ []) (inside (quoted q))
   unfolding step
   spells_low x y z w =
       spells_cons _ (in_escape low_u q) _ 0x5C _ refl refl
       (spells_cons _ (in_escape low_d q) _ 0x75 _ refl refl
       (spells_cons _ (in_escape low_digit q) _ (d_byte x) _ (leads_d (in_escape low_d q) (in_escape low_digit q) refl refl x) refl
-      (spells_cons _ (in_escape (digits 1) q) _ (c_to_fByte y) _ (leads_low y) refl (spells_two z w))))
+      (spells_cons _ (in_escape (digits 1) q) _ (c_to_f_byte y) _ (leads_low y) refl (spells_two z w))))
 
   spells_hex_char : (x : HexChar) → Spells (in_escape M.first q) (put_hex_char x []) (inside (quoted q))
   unfolding put_hex_char landing step
   spells_hex_char (E.usual x y z w) =
-      spells_cons _ (in_escape (digits 2) q) _ (not_dByte x) _ (leads_not_d x) refl
+      spells_cons _ (in_escape (digits 2) q) _ (not_d_byte x) _ (leads_not_d x) refl
       (spells_hex _ (in_escape (digits 1) q) _ refl refl y _ (spells_two z w))
   spells_hex_char (E.below x y z w) =
       spells_cons _ (in_escape behind_d_of q) _ (d_byte x) _ (leads_d (in_escape M.first q) (in_escape behind_d_of q) refl refl x) refl
       (spells_cons _ (in_escape (digits 1) q) _ y.byte _ (leads_in (in_escape behind_d_of q) y _ refl) refl (spells_two z w))
   spells_hex_char (E.pair (x, y, z, w) (x', y', z', w')) =
       spells_cons _ (in_escape behind_d_of q) _ (d_byte x) _ (leads_d (in_escape M.first q) (in_escape behind_d_of q) refl refl x) refl
-      (spells_cons _ (in_escape (high_digits_of 1) q) _ (eight_to_bByte y) _ (leads_high y) refl
+      (spells_cons _ (in_escape (high_digits_of 1) q) _ (eight_to_b_byte y) _ (leads_high y) refl
       (spells_hex _ (in_escape (high_digits_of 0) q) _ refl refl z _
       (spells_hex _ (in_escape low_backslash q) _ refl refl w _ (spells_low x' y' z' w'))))
 

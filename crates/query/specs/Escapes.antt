@@ -49,32 +49,32 @@ escape_byte tabulator = 0x74
 escape_byte slash = 0x2F
 escape_byte backslash = 0x5C
 
-abbrev pub not_dByte : NotD → ℕ
-not_dByte (digit x) = x.byte
-not_dByte (upper_a_c x) = x.byte
-not_dByte (upper_e_f x) = x.byte
-not_dByte (lower_a_c x) = x.byte
-not_dByte (lower_e_f x) = x.byte
+abbrev pub not_d_byte : NotD → ℕ
+not_d_byte (digit x) = x.byte
+not_d_byte (upper_a_c x) = x.byte
+not_d_byte (upper_e_f x) = x.byte
+not_d_byte (lower_a_c x) = x.byte
+not_d_byte (lower_e_f x) = x.byte
 
 abbrev pub d_byte : D → ℕ
 d_byte upper = 0x44
 d_byte lower = 0x64
 
-abbrev pub eight_to_bByte : EightToB → ℕ
-eight_to_bByte (digit x) = x.byte
-eight_to_bByte (upper x) = x.byte
-eight_to_bByte (lower x) = x.byte
+abbrev pub eight_to_b_byte : EightToB → ℕ
+eight_to_b_byte (digit x) = x.byte
+eight_to_b_byte (upper x) = x.byte
+eight_to_b_byte (lower x) = x.byte
 
-abbrev pub c_to_fByte : CToF → ℕ
-c_to_fByte (upper x) = x.byte
-c_to_fByte (lower x) = x.byte
+abbrev pub c_to_f_byte : CToF → ℕ
+c_to_f_byte (upper x) = x.byte
+c_to_f_byte (lower x) = x.byte
 
 unfoldable pub put_hex_char : HexChar → List ℕ → List ℕ
-put_hex_char (usual x y z w) s = not_dByte x ∷ hex_byte y ∷ hex_byte z ∷ hex_byte w ∷ s
+put_hex_char (usual x y z w) s = not_d_byte x ∷ hex_byte y ∷ hex_byte z ∷ hex_byte w ∷ s
 put_hex_char (below x y z w) s = d_byte x ∷ y.byte ∷ hex_byte z ∷ hex_byte w ∷ s
 put_hex_char (pair (x, y, z, w) (x', y', z', w')) s =
-    d_byte x ∷ eight_to_bByte y ∷ hex_byte z ∷ hex_byte w ∷
-    0x5C ∷ 0x75 ∷ d_byte x' ∷ c_to_fByte y' ∷ hex_byte z' ∷ hex_byte w' ∷ s
+    d_byte x ∷ eight_to_b_byte y ∷ hex_byte z ∷ hex_byte w ∷
+    0x5C ∷ 0x75 ∷ d_byte x' ∷ c_to_f_byte y' ∷ hex_byte z' ∷ hex_byte w' ∷ s
 
 -- code points
 
@@ -87,26 +87,26 @@ escape_point tabulator = 0x09
 escape_point slash = 0x2F
 escape_point backslash = 0x5C
 
-abbrev pub not_dDigit : NotD → ℕ
-not_dDigit (digit x) = x.byte - 0x30
-not_dDigit (upper_a_c x) = x.byte - 0x37
-not_dDigit (upper_e_f x) = x.byte - 0x37
-not_dDigit (lower_a_c x) = x.byte - 0x57
-not_dDigit (lower_e_f x) = x.byte - 0x57
+abbrev pub not_d_digit : NotD → ℕ
+not_d_digit (digit x) = x.byte - 0x30
+not_d_digit (upper_a_c x) = x.byte - 0x37
+not_d_digit (upper_e_f x) = x.byte - 0x37
+not_d_digit (lower_a_c x) = x.byte - 0x57
+not_d_digit (lower_e_f x) = x.byte - 0x57
 
-abbrev pub eight_to_bDigit : EightToB → ℕ
-eight_to_bDigit (digit x) = x.byte - 0x30
-eight_to_bDigit (upper x) = x.byte - 0x37
-eight_to_bDigit (lower x) = x.byte - 0x57
+abbrev pub eight_to_b_digit : EightToB → ℕ
+eight_to_b_digit (digit x) = x.byte - 0x30
+eight_to_b_digit (upper x) = x.byte - 0x37
+eight_to_b_digit (lower x) = x.byte - 0x57
 
-abbrev pub c_to_fDigit : CToF → ℕ
-c_to_fDigit (upper x) = x.byte - 0x37
-c_to_fDigit (lower x) = x.byte - 0x57
+abbrev pub c_to_f_digit : CToF → ℕ
+c_to_f_digit (upper x) = x.byte - 0x37
+c_to_f_digit (lower x) = x.byte - 0x57
 
 unfoldable pub hex_char_point : HexChar → ℕ
-hex_char_point (usual x y z w) = four_digits (not_dDigit x) (hex_digit y) (hex_digit z) (hex_digit w)
+hex_char_point (usual x y z w) = four_digits (not_d_digit x) (hex_digit y) (hex_digit z) (hex_digit w)
 hex_char_point (below x y z w) = four_digits 13 (y.byte - 0x30) (hex_digit z) (hex_digit w)
 hex_char_point (pair (x, y, z, w) (x', y', z', w')) =
     joined
-    (four_digits 13 (eight_to_bDigit y) (hex_digit z) (hex_digit w))
-    (four_digits 13 (c_to_fDigit y') (hex_digit z') (hex_digit w'))
+    (four_digits 13 (eight_to_b_digit y) (hex_digit z) (hex_digit w))
+    (four_digits 13 (c_to_f_digit y') (hex_digit z') (hex_digit w'))

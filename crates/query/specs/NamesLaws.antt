@@ -15,8 +15,8 @@ use Rattle.encoding.specs.Unescape.{hex_value, short_point_of, unescaped, Spells
 use Rattle.encoding.specs.UnescapeLaws.{unescaped-nil, escape_alone, escape_pair, not_high, hex_value_lem, hex_range, hex_small, spelt_is}
 use Rattle.encoding.specs.UnescapeLaws.{Character, narrow_character, short_character, wide_character}
 use Rattle.query.specs.Escapes as E
-use Rattle.query.specs.Escapes.{Escape, escape_byte, escape_point, NotD, not_dByte, not_dDigit, D, d_byte, EightToB, eight_to_bByte, eight_to_bDigit}
-use Rattle.query.specs.Escapes.{CToF, c_to_fByte, c_to_fDigit, HexChar, put_hex_char, hex_char_point}
+use Rattle.query.specs.Escapes.{Escape, escape_byte, escape_point, NotD, not_d_byte, not_d_digit, D, d_byte, EightToB, eight_to_b_byte, eight_to_b_digit}
+use Rattle.query.specs.Escapes.{CToF, c_to_f_byte, c_to_f_digit, HexChar, put_hex_char, hex_char_point}
 use Rattle.query.specs.Grammar as G
 use Rattle.query.specs.Grammar.{First, Later, Quote, quote_byte, before_quote, Char, Short, Inner, Segment, Query}
 use Rattle.query.specs.Grammar.{put_first, put_later, put_laters, put_char, put_chars, first_point, later_point, char_point, short_points, quoted_points}
@@ -42,7 +42,7 @@ module _ {lo hi : ℕ} (x : In lo hi) where
   unfolding make
   lower_value l h = hex_value_lem (H.lower (make x.byte (omega (arith, from_low x)) (omega (arith, to_high x))))
 
-not_d_value : (x : NotD) → hex_value (not_dByte x) ≡ not_dDigit x
+not_d_value : (x : NotD) → hex_value (not_d_byte x) ≡ not_d_digit x
 not_d_value (E.digit x) = digit_value x (omega arith) (omega arith)
 not_d_value (E.upper_a_c x) = upper_value x (omega arith) (omega arith)
 not_d_value (E.upper_e_f x) = upper_value x (omega arith) (omega arith)
@@ -54,49 +54,49 @@ unfolding hex_value
 d_value E.upper = refl
 d_value E.lower = refl
 
-high_value : (y : EightToB) → hex_value (eight_to_bByte y) ≡ eight_to_bDigit y
+high_value : (y : EightToB) → hex_value (eight_to_b_byte y) ≡ eight_to_b_digit y
 high_value (E.digit y) = digit_value y (omega arith) (omega arith)
 high_value (E.upper y) = upper_value y (omega arith) (omega arith)
 high_value (E.lower y) = lower_value y (omega arith) (omega arith)
 
-low_value : (y : CToF) → hex_value (c_to_fByte y) ≡ c_to_fDigit y
+low_value : (y : CToF) → hex_value (c_to_f_byte y) ≡ c_to_f_digit y
 low_value (E.upper y) = upper_value y (omega arith) (omega arith)
 low_value (E.lower y) = lower_value y (omega arith) (omega arith)
 
 -- and their bounds
 
-not_d_small : (x : NotD) → not_dDigit x < 16
-not_d_small x = omega (arith, hex_small (not_dByte x), not_d_value x)
+not_d_small : (x : NotD) → not_d_digit x < 16
+not_d_small x = omega (arith, hex_small (not_d_byte x), not_d_value x)
 
-not_thirteen : (x : NotD) → not_dDigit x ≡ 13 → ⊥
+not_thirteen : (x : NotD) → not_d_digit x ≡ 13 → ⊥
 not_thirteen (E.digit x) e = omega (arith, to_high x)
 not_thirteen (E.upper_a_c x) e = omega (arith, to_high x)
 not_thirteen (E.upper_e_f x) e = omega (arith, from_low x)
 not_thirteen (E.lower_a_c x) e = omega (arith, to_high x)
 not_thirteen (E.lower_e_f x) e = omega (arith, from_low x)
 
-high_bounds : (y : EightToB) → (8 ≤ eight_to_bDigit y) × (eight_to_bDigit y ≤ 11)
+high_bounds : (y : EightToB) → (8 ≤ eight_to_b_digit y) × (eight_to_b_digit y ≤ 11)
 high_bounds (E.digit y) = (omega (arith, from_low y), omega (arith, to_high y))
 high_bounds (E.upper y) = (omega (arith, from_low y), omega (arith, to_high y))
 high_bounds (E.lower y) = (omega (arith, from_low y), omega (arith, to_high y))
 
-low_bounds : (y : CToF) → (12 ≤ c_to_fDigit y) × (c_to_fDigit y ≤ 15)
+low_bounds : (y : CToF) → (12 ≤ c_to_f_digit y) × (c_to_f_digit y ≤ 15)
 low_bounds (E.upper y) = (omega (arith, from_low y), omega (arith, to_high y))
 low_bounds (E.lower y) = (omega (arith, from_low y), omega (arith, to_high y))
 
 -- the two halves of a pair
 
 module _ (z w : Hex) where
-  high_half : (y : EightToB) → is_high (four_digits 13 (eight_to_bDigit y) (hex_digit z) (hex_digit w)) ≡ true
+  high_half : (y : EightToB) → is_high (four_digits 13 (eight_to_b_digit y) (hex_digit z) (hex_digit w)) ≡ true
   high_half y =
       let b = high_bounds y in
-      inside 0xD800 0xDBFF (four_digits 13 (eight_to_bDigit y) (hex_digit z) (hex_digit w)) (omega (arith, b.0))
+      inside 0xD800 0xDBFF (four_digits 13 (eight_to_b_digit y) (hex_digit z) (hex_digit w)) (omega (arith, b.0))
       (omega (arith, b.1, hex_range z, hex_range w))
 
-  low_half : (y : CToF) → is_low (four_digits 13 (c_to_fDigit y) (hex_digit z) (hex_digit w)) ≡ true
+  low_half : (y : CToF) → is_low (four_digits 13 (c_to_f_digit y) (hex_digit z) (hex_digit w)) ≡ true
   low_half y =
       let b = low_bounds y in
-      inside 0xDC00 0xDFFF (four_digits 13 (c_to_fDigit y) (hex_digit z) (hex_digit w)) (omega (arith, b.0))
+      inside 0xDC00 0xDFFF (four_digits 13 (c_to_f_digit y) (hex_digit z) (hex_digit w)) (omega (arith, b.0))
       (omega (arith, b.1, hex_range z, hex_range w))
 
 -- characters as themselves
@@ -159,17 +159,17 @@ alone a b c d n s e k =
 hex_char_decoded : (x : HexChar) (s : List ℕ) → unescaped (0x5C ∷ 0x75 ∷ put_hex_char x s) ≡ utf8 (hex_char_point x) (unescaped s)
 unfolding put_hex_char hex_char_point
 hex_char_decoded (E.usual x y z w) s =
-    alone (not_dByte x) (hex_byte y) (hex_byte z) (hex_byte w) _ s (rw (not_d_value x, hex_value_lem y, hex_value_lem z, hex_value_lem w))
+    alone (not_d_byte x) (hex_byte y) (hex_byte z) (hex_byte w) _ s (rw (not_d_value x, hex_value_lem y, hex_value_lem z, hex_value_lem w))
     (hex_char_scalar (E.usual x y z w))
 hex_char_decoded (E.below x y z w) s =
     alone (d_byte x) y.byte (hex_byte z) (hex_byte w) _ s
     (rw (d_value x, digit_value y (omega arith) (omega arith), hex_value_lem z, hex_value_lem w)) (hex_char_scalar (E.below x y z w))
 hex_char_decoded (E.pair (x, y, z, w) (x', y', z', w')) s =
-    let e : four_digits (hex_value (d_byte x)) (hex_value (eight_to_bByte y)) (hex_value (hex_byte z)) (hex_value (hex_byte w)) ≡
-    four_digits 13 (eight_to_bDigit y) (hex_digit z) (hex_digit w) = rw (d_value x, high_value y, hex_value_lem z, hex_value_lem w) in
-    let e' : four_digits (hex_value (d_byte x')) (hex_value (c_to_fByte y')) (hex_value (hex_byte z')) (hex_value (hex_byte w')) ≡
-    four_digits 13 (c_to_fDigit y') (hex_digit z') (hex_digit w') = rw (d_value x', low_value y', hex_value_lem z', hex_value_lem w') in
-    escape_pair (d_byte x) (eight_to_bByte y) (hex_byte z) (hex_byte w) (d_byte x') (c_to_fByte y') (hex_byte z') (hex_byte w') s
+    let e : four_digits (hex_value (d_byte x)) (hex_value (eight_to_b_byte y)) (hex_value (hex_byte z)) (hex_value (hex_byte w)) ≡
+    four_digits 13 (eight_to_b_digit y) (hex_digit z) (hex_digit w) = rw (d_value x, high_value y, hex_value_lem z, hex_value_lem w) in
+    let e' : four_digits (hex_value (d_byte x')) (hex_value (c_to_f_byte y')) (hex_value (hex_byte z')) (hex_value (hex_byte w')) ≡
+    four_digits 13 (c_to_f_digit y') (hex_digit z') (hex_digit w') = rw (d_value x', low_value y', hex_value_lem z', hex_value_lem w') in
+    escape_pair (d_byte x) (eight_to_b_byte y) (hex_byte z) (hex_byte w) (d_byte x') (c_to_f_byte y') (hex_byte z') (hex_byte w') s
     (ap is_high e ∙ high_half z w y) (ap is_low e' ∙ low_half z' w' y') ∙
     ap₂ (λ (n m : ℕ). utf8 (joined n m) (unescaped s)) e e'
 

@@ -14,7 +14,7 @@ use Rattle.encoding.specs.BytesLaws.{beneath, beyond, make}
 use Rattle.encoding.specs.Hex as H
 use Rattle.encoding.specs.Hex.{hex_byte}
 use Rattle.query.specs.Escapes as E
-use Rattle.query.specs.Escapes.{not_dByte, d_byte, eight_to_bByte, c_to_fByte}
+use Rattle.query.specs.Escapes.{not_d_byte, d_byte, eight_to_b_byte, c_to_f_byte}
 use Rattle.query.specs.Grammar as G
 use Rattle.query.specs.Grammar.{Quote}
 use Rattle.query.specs.Machine as M
@@ -134,17 +134,17 @@ module _ {b v : ℕ} where
   on_high_digits n = on_hex (high_digits_of n) (M.high_digits_due n) (λ x. refl)
 
   -- the first behind `\u`: no D, or one
-  pub on_not_d : HexIs b v → (v ≡ 13 → ⊥) → (v ≡ 16 → ⊥) → Leads not_dByte M.first (in_escape (digits 2)) b
+  pub on_not_d : HexIs b v → (v ≡ 13 → ⊥) → (v ≡ 16 → ⊥) → Leads not_d_byte M.first (in_escape (digits 2)) b
   unfolding landing make
   on_not_d (digit l h e) f g = by_range l h E.digit refl (λ x. refl)
   on_not_d (upper l h e) f g = go (leb b 0x43) refl
     where
-      go : (t : Bool) → leb b 0x43 ≡ t → Leads not_dByte M.first (in_escape (digits 2)) b
+      go : (t : Bool) → leb b 0x43 ≡ t → Leads not_d_byte M.first (in_escape (digits 2)) b
       go true z = by_range l (leb-true b 0x43 z) E.upper_a_c refl (λ x. refl)
       go false z = by_range (omega (arith, leb-false b 0x43 z)) h E.upper_e_f refl (λ x. refl)
   on_not_d (lower l h e) f g = go (leb b 0x63) refl
     where
-      go : (t : Bool) → leb b 0x63 ≡ t → Leads not_dByte M.first (in_escape (digits 2)) b
+      go : (t : Bool) → leb b 0x63 ≡ t → Leads not_d_byte M.first (in_escape (digits 2)) b
       go true z = by_range l (leb-true b 0x63 z) E.lower_a_c refl (λ x. refl)
       go false z = by_range (omega (arith, leb-false b 0x63 z)) h E.lower_e_f refl (λ x. refl)
   on_not_d (none k m n e) f g = absurd (g e)
@@ -172,7 +172,7 @@ module _ {b v : ℕ} where
   on_below (lower l h e) f = absurd (omega arith)
   on_below (none k m n e) f = absurd (omega arith)
 
-  pub on_high : HexIs b v → 8 ≤ v → v ≤ 11 → Leads eight_to_bByte behind_d_of (in_escape (high_digits_of 1)) b
+  pub on_high : HexIs b v → 8 ≤ v → v ≤ 11 → Leads eight_to_b_byte behind_d_of (in_escape (high_digits_of 1)) b
   unfolding landing make
   on_high (digit l h e) f g = by_range (omega arith) h E.digit refl (λ x. refl)
   on_high (upper l h e) f g = by_range l (omega arith) E.upper refl (λ x. refl)
@@ -180,7 +180,7 @@ module _ {b v : ℕ} where
   on_high (none k m n e) f g = absurd (omega arith)
 
   -- that of a low half
-  pub on_low : HexIs b v → 12 ≤ v → v ≤ 15 → Leads c_to_fByte low_digit (in_escape (digits 1)) b
+  pub on_low : HexIs b v → 12 ≤ v → v ≤ 15 → Leads c_to_f_byte low_digit (in_escape (digits 1)) b
   unfolding landing make
   on_low (digit l h e) f g = absurd (omega arith)
   on_low (upper l h e) f g = by_range (omega arith) h E.upper refl (λ x. refl)

@@ -1,7 +1,7 @@
 -- What the scan of an escape says: the character of the grammar that stands there, or the place of the dead byte; and the same of its parts.
 use Rattle.std.specs.Prelude.{◌≡◌, List, ◌∷◌, Bool, true, false, ℕ, ◌-◌, ◌≤◌, ◌<◌, length, drop}
 use Rattle.encoding.specs.Hex.{Hex, hex_byte}
-use Rattle.query.specs.Escapes.{D, CToF, HexChar, d_byte, c_to_fByte, put_hex_char}
+use Rattle.query.specs.Escapes.{D, CToF, HexChar, d_byte, c_to_f_byte, put_hex_char}
 use Rattle.query.specs.Grammar.{Quote, quote_byte, Char, put_char}
 use Rattle.query.specs.Machine.{Due, kind, in_escape}
 use Rattle.query.specs.Read.{bad, reading}
@@ -42,7 +42,7 @@ abbrev pub Low : Type 0
 Low = D × CToF × Hex × Hex
 
 abbrev pub put_low : Low → List ℕ → List ℕ
-put_low (x, y, z, w) s = d_byte x ∷ c_to_fByte y ∷ hex_byte z ∷ hex_byte w ∷ s
+put_low (x, y, z, w) s = d_byte x ∷ c_to_f_byte y ∷ hex_byte z ∷ hex_byte w ∷ s
 
 abbrev pub LowDigits : List ℕ → List ℕ → Type 0
 LowDigits rest s = (l : Low) × (put_low l rest ≡ s)
