@@ -87,6 +87,21 @@ bit_ones (suc k) (suc i) h =
 pub bit_not : (k i a : ℕ) → i < k → bit i (bit_xor a (2 ^ k - 1)) ≡ not (bit i a)
 bit_not k i a h = bit_xor_lem i a (2 ^ k - 1) ∙ ap (xor (bit i a)) (bit_ones k i h) ∙ xor_true (bit i a)
 
+on_flip : (x : ℕ) → x < 2 → on (1 - x) ≡ not (on x)
+unfolding on
+on_flip zero h = refl
+on_flip (suc x) h = let e : 1 - suc x ≡ 0 = omega arith in ap on e
+
+-- `!` at width k
+pub bit_flip : (k i a : ℕ) → a < 2 ^ k → i < k → bit i (2 ^ k - 1 - a) ≡ not (bit i a)
+unfolding bit
+bit_flip zero i a l h = absurd (omega arith)
+bit_flip (suc k) zero a l h =
+    let e : (2 ^ suc k - 1 - a) % 2 ≡ 1 - a % 2 = omega (arith, pow-suc 2 k) in ap on e ∙ on_flip (a % 2) (omega arith)
+bit_flip (suc k) (suc i) a l h =
+    let e : (2 ^ suc k - 1 - a) / 2 ≡ 2 ^ k - 1 - a / 2 = omega (arith, pow-suc 2 k) in
+    ap (bit i) e ∙ bit_flip k i (a / 2) (omega (arith, pow-suc 2 k)) (omega arith)
+
 -- ---- no bit, and the lowest k bits
 
 pub bit-zero : (i : ℕ) → bit i 0 ≡ false

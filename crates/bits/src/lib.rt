@@ -10,7 +10,7 @@ ghost use Rattle.bits.specs.Word.{Loaded};
 pub fn lowest(w: u64) -> u32
     ensures { Lowest 64 w result }
 {
-    u64::trailing_zeros(w)
+    w.trailing_zeros()
 }
 
 // Whether bit i is on.
@@ -21,43 +21,13 @@ pub fn has(w: u64, i: usize) -> bool
     w >> i & 1 == 1
 }
 
-// A byte as a word.
-fn wide(b: u8) -> u64
-    ensures { result ≡ b }
-{
-    b as u64
-}
-
-// The byte at `i`.
-fn load1(s: &[u8], i: usize) -> u64
-    requires { i < length s.now }
-    ensures { Loaded 1 s.now i result }
-{
-    wide(s[i])
-}
-
-// The two bytes from `i` on, the first lowest.
-fn load2(s: &[u8], i: usize) -> u64
-    requires { i + 2 ≤ length s.now }
-    ensures { Loaded 2 s.now i result }
-{
-    load1(s, i) + load1(s, i + 1) * 0x100
-}
-
-// The four bytes from `i` on, the first lowest.
-fn load4(s: &[u8], i: usize) -> u64
-    requires { i + 4 ≤ length s.now }
-    ensures { Loaded 4 s.now i result }
-{
-    load2(s, i) + load2(s, i + 2) * 0x10000
-}
-
 // The eight bytes from `i` on, the first lowest.
 pub fn load8(s: &[u8], i: usize) -> u64
     requires { i + 8 ≤ length s.now }
     ensures { Loaded 8 s.now i result }
 {
-    load4(s, i) + load4(s, i + 4) * 0x100000000
+    let bytes: [u8; 8] = s[i..i + 8].try_into().unwrap();
+    u64::from_le_bytes(bytes)
 }
 
 // The 16 bits of `mask`, and bit `n` too where `on`.

@@ -1,12 +1,12 @@
 -- The places behind an odd run of backslashes by one sum. A one is added at each even place that does not follow a backslash: its carry
 -- runs through the backslashes from there on, so a carry that has left a run says whether the run began at an even place. The places that
 -- come out changed against the even ones are those of odd distance from the run's start. Assumes nothing.
-use Rattle.std.proofs.Common.{◌≡◌, ℕ, zero, suc, ◌+◌, ◌*◌, ◌%◌, ◌^◌, ◌<◌, Bool, true, false, cond, not, ◌&&◌, ◌||◌, T, sym, refl, ap, ◌∙◌, ap₂, arith}
+use Rattle.std.proofs.Common.{◌≡◌, ℕ, zero, suc, ◌+◌, ◌-◌, ◌*◌, ◌%◌, ◌^◌, ◌<◌, Bool, true, false, cond, not, ◌&&◌, ◌||◌, T, sym, refl, ap, ◌∙◌, ap₂, arith}
 use mathlib.Core.Bool.{xor, and-true, beq}
 use lib.Bits.{bit_and, bit_or, bit_xor}
 use mir.Val.{bool_byte}
 use Rattle.bits.specs.Bits.{on, bit, digit}
-use Rattle.bits.specs.Laws.{bit_and_lem, bit_or_lem, bit_xor_lem, bit_not, bit-mod, bit-zero, bit_shl, shifted, shifted_same, majority, carry, carry_same, bit_add}
+use Rattle.bits.specs.Laws.{bit_and_lem, bit_or_lem, bit_xor_lem, bit_flip, bit-mod, bit-zero, bit_shl, shifted, shifted_same, majority, carry, carry_same, bit_add}
 use Rattle.bits.specs.Truth.{truth, beq→eq, all_below, all_at}
 use Rattle.blocks.specs.Parts.{odd_run}
 
@@ -101,26 +101,30 @@ first_bit false zero = refl
 first_bit true (suc i) = bit-zero i
 first_bit false (suc i) = bit-zero i
 
+first_fits : (o : Bool) → bool_byte o < 2 ^ 64
+first_fits true = omega arith
+first_fits false = omega arith
+
 module _ (backslashes : ℕ) (odd : Bool) where
   abbrev at : ℕ → Bool
   at j = bit j backslashes
 
   abbrev own_word : ℕ
-  own_word = bit_and backslashes (bit_xor (bool_byte odd) all_ones)
+  own_word = bit_and backslashes (all_ones - bool_byte odd)
 
   abbrev starts_word : ℕ
-  starts_word = bit_and (bit_xor (own_word * 2 ^ 1 % 2 ^ 64) all_ones) evens
+  starts_word = bit_and (all_ones - own_word * 2 ^ 1 % 2 ^ 64) evens
 
   own_bit : (i : ℕ) → i < 64 → bit i own_word ≡ own at odd i
   unfolding own
-  own_bit i l = bit_and_lem i backslashes (bit_xor (bool_byte odd) all_ones)
-      ∙ ap (λ (x : Bool). bit i backslashes && x) (bit_not 64 i (bool_byte odd) l ∙ ap not (first_bit odd i))
+  own_bit i l = bit_and_lem i backslashes (all_ones - bool_byte odd)
+      ∙ ap (λ (x : Bool). bit i backslashes && x) (bit_flip 64 i (bool_byte odd) (first_fits odd) l ∙ ap not (first_bit odd i))
 
   starts_bit : (i : ℕ) → i < 64 → bit i starts_word ≡ starts at odd i
   unfolding starts
-  starts_bit i l = bit_and_lem i (bit_xor (own_word * 2 ^ 1 % 2 ^ 64) all_ones) evens
+  starts_bit i l = bit_and_lem i (all_ones - own_word * 2 ^ 1 % 2 ^ 64) evens
       ∙ ap₂ (λ (x y : Bool). x && y)
-      (bit_not 64 i (own_word * 2 ^ 1 % 2 ^ 64) l
+      (bit_flip 64 i (own_word * 2 ^ 1 % 2 ^ 64) (omega arith) l
       ∙ ap not (bit_shl 64 1 i own_word l
       ∙ shifted_same 1 (λ j. bit j own_word) (own at odd) i (λ j r. own_bit j (omega arith))))
       (evens_bit i l)

@@ -1,5 +1,6 @@
 pub mod Parity
 pub mod Escape
-pub mod Fill
 pub mod StringsFound
 pub mod Sort
+pub mod Apart
+pub mod Front

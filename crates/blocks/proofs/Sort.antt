@@ -2,9 +2,9 @@
 -- cuts them to a shorter block. Assumes nothing.
 use Rattle.std.proofs.Common.{◌≡◌, ℕ, zero, suc, ◌+◌, ◌-◌, ◌*◌, ◌%◌, ◌^◌, ◌<◌, ◌≤◌, Bool, not, ◌&&◌, List, length, sym, refl, ap, ◌∙◌, ap₂, lt_of_le_of_lt, one-mul, add-one, arith, shl_exact}
 use mathlib.Core.Bool.{xor}
-use lib.Bits.{bit_and, bit_xor, and_mask, and_le_l}
+use lib.Bits.{bit_and, and_mask, and_le_l}
 use Rattle.bits.specs.Bits.{bit, number}
-use Rattle.bits.specs.Laws.{bit_and_lem, bit_not, number_of, number_is}
+use Rattle.bits.specs.Laws.{bit_and_lem, bit_flip, number_of, number_is}
 use Rattle.blocks.specs.Words.{odd_before, real_quote, odd_quotes, in_string, opens_at, closes_at, block_size, quotes_word, strings_word, opening_word, closing_word, inside_after, odd_after}
 use Rattle.classifier.specs.Classes.{is_backslash}
 use Rattle.blocks.specs.Laws.{size_full, size_short, inside_full, odd_full, quotes_bit, strings_bit, opening_bit, closing_bit, quote_same, quotes_same, string_same, opens_same, closes_same, odd_quotes_past}
@@ -31,7 +31,7 @@ parity_is s inside odd f (suc i) h = ap₂ xor (h i (omega arith)) (parity_is s 
 -- ---- a full block
 
 module _ (s : List ℕ) (inside odd : Bool) (q b o c quotes strings : ℕ) (ends : Bool) (classes : Classified s q b o c)
-    (found : StringsFound q b inside odd quotes strings ends) where
+    (found : StringsFound q b inside odd quotes strings ends) (fits : strings < 2 ^ 64) where
   run_before : (i : ℕ) → i ≤ 64 → odd_run odd (λ j. bit j b) i ≡ odd_before odd s i
   run_before i h = run_is s odd (λ j. bit j b) i (λ j l. classes.backslash_at j (omega arith))
 
@@ -48,36 +48,32 @@ module _ (s : List ℕ) (inside odd : Bool) (q b o c quotes strings : ℕ) (ends
 
   -- the bits of a word outside strings
   outside_bit : (w : ℕ) (f : ℕ → Bool) → ((i : ℕ) → i < 64 → bit i w ≡ f i)
-      → (i : ℕ) → i < 64 → bit i (bit_and w (bit_xor strings all_ones)) ≡ (f i && not (in_string inside odd s i))
-  outside_bit w f h i l = bit_and_lem i w (bit_xor strings all_ones)
-      ∙ ap₂ (λ (x y : Bool). x && y) (h i l) (bit_not 64 i strings l ∙ ap not (string_bit i l))
+      → (i : ℕ) → i < 64 → bit i (bit_and w (all_ones - strings)) ≡ (f i && not (in_string inside odd s i))
+  outside_bit w f h i l = bit_and_lem i w (all_ones - strings)
+      ∙ ap₂ (λ (x y : Bool). x && y) (h i l) (bit_flip 64 i strings fits l ∙ ap not (string_bit i l))
 
   module _ (long : 64 ≤ length s) where
     full : (w : ℕ) (f : ℕ → Bool) → w < 2 ^ 64 → ((i : ℕ) → i < 64 → bit i w ≡ f i) → w ≡ number (block_size s) f
     full w f l h = number_is 64 w f l h ∙ ap (λ (n : ℕ). number n f) (sym (size_full s long))
 
-    pub quotes_full : quotes < 2 ^ 64 → quotes ≡ quotes_word odd s
-    unfolding quotes_word
-    quotes_full l = full quotes (real_quote odd s) l quote_bit
-
-    pub strings_full : strings < 2 ^ 64 → strings ≡ strings_word inside odd s
-    unfolding strings_word
-    strings_full l = full strings (in_string inside odd s) l string_bit
-
-    pub opening_full : o < 2 ^ 64 → bit_and o (bit_xor strings all_ones) ≡ opening_word inside odd s
-    unfolding opening_word opens_at
-    opening_full l = full _ (opens_at inside odd s) (lt_of_le_of_lt (and_le_l o _) l) (outside_bit o (is_opening s) classes.opening_at)
-
-    pub closing_full : c < 2 ^ 64 → bit_and c (bit_xor strings all_ones) ≡ closing_word inside odd s
-    unfolding closing_word closes_at
-    closing_full l = full _ (closes_at inside odd s) (lt_of_le_of_lt (and_le_l c _) l) (outside_bit c (is_closing s) classes.closing_at)
-
-    pub inside_last : bit 63 strings ≡ inside_after inside odd s
-    unfolding in_string
-    inside_last = string_bit 63 (omega arith) ∙ sym (inside_full s inside odd long)
-
-    pub odd_last : ends ≡ odd_after odd s
-    odd_last = found.ends_is ∙ run_before 64 (omega arith) ∙ sym (odd_full s inside odd long)
+    pub full_sorted : quotes < 2 ^ 64 → o < 2 ^ 64 → c < 2 ^ 64 → {last : Bool} → last ≡ bit 63 strings
+        → Sorted s inside odd (record {
+          quotes = quotes;
+          strings = strings;
+          opening = bit_and o (all_ones - strings);
+          closing = bit_and c (all_ones - strings);
+          inside = last;
+          odd = ends;
+        })
+    unfolding quotes_word strings_word opening_word closing_word opens_at closes_at in_string
+    full_sorted fits_quotes fits_opening fits_closing last = record {
+      quotes_are = full quotes (real_quote odd s) fits_quotes quote_bit;
+      strings_are = full strings (in_string inside odd s) fits string_bit;
+      opening_are = full _ (opens_at inside odd s) (lt_of_le_of_lt (and_le_l o _) fits_opening) (outside_bit o (is_opening s) classes.opening_at);
+      closing_are = full _ (closes_at inside odd s) (lt_of_le_of_lt (and_le_l c _) fits_closing) (outside_bit c (is_closing s) classes.closing_at);
+      inside_is = last ∙ string_bit 63 (omega arith) ∙ sym (inside_full s inside odd long);
+      odd_is = found.ends_is ∙ run_before 64 (omega arith) ∙ sym (odd_full s inside odd long);
+    }
 
 -- ---- a shorter block
 

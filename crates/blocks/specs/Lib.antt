@@ -3,4 +3,3 @@ pub mod Laws
 pub mod Examples
 pub mod Sorted
 pub mod Parts
-pub mod Counts

@@ -1,5 +1,5 @@
 -- What the parts of the sorter promise, over the places of 64 bytes.
-use Rattle.std.specs.Prelude.{◌≡◌, ℕ, zero, suc, ◌+◌, ◌<◌, Bool, not, ◌&&◌, List, length}
+use Rattle.std.specs.Prelude.{◌≡◌, ℕ, zero, suc, ◌+◌, ◌<◌, Bool, true, not, ◌&&◌, List, length}
 use Rattle.std.specs.Bool.{xor}
 use Rattle.bits.specs.Bits.{bit}
 use Rattle.classifier.specs.Classes.{byte_at}
@@ -19,6 +19,10 @@ pub record StringsFound (q b : ℕ) (inside odd : Bool) (quotes strings : ℕ) (
   pub quotes_at : (i : ℕ) → i < 64 → bit i quotes ≡ (bit i q && not (odd_run odd (λ j. bit j b) i))
   pub strings_at : (i : ℕ) → i < 64 → bit i strings ≡ parity inside (λ j. bit j quotes) (i + 1)
   pub ends_is : ends ≡ odd_run odd (λ j. bit j b) 64
+
+-- no place has both an opening and a closing bracket
+abbrev pub NotBoth : (opening closing : ℕ) → Type 0
+NotBoth a b = (j : ℕ) → bit j a ≡ true → bit j b ≡ true → ⊥
 
 -- d has 64 bytes: those of s and zeros behind them
 pub record Padded (s d : List ℕ) : Type 0 where

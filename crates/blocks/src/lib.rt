@@ -1,14 +1,14 @@
 // Sorts a block of at most 64 bytes into words of 64 bits, with the facts for the next block.
 #![tactic(auto)]
 
-ghost use Rattle.std.specs.Prelude.{◌≡◌, ℕ, ◌+◌, ◌-◌, ◌^◌, ◌<◌, ◌≤◌, false, length};
+ghost use Rattle.std.specs.Prelude.{◌≡◌, ℕ, ◌+◌, ◌-◌, ◌^◌, ◌<◌, ◌≤◌, false, length, count_ones};
 ghost use Rattle.bits.specs.Bits.{bit};
-ghost use Rattle.blocks.specs.Parts.{odd_run, parity, StringsFound, Padded};
+ghost use Rattle.blocks.specs.Parts.{odd_run, parity, NotBoth, StringsFound, Padded};
 ghost use Rattle.blocks.specs.Words.{odd_before};
 ghost use Rattle.blocks.specs.Sorted.{Sorted};
-ghost use Rattle.blocks.specs.Counts.{counted_of, SortedCounted};
 
 use bits::has;
+pub use classifier::BLOCK;
 use classifier::classify;
 
 // Words one to four of a block, and the facts that hold after it.
@@ -23,12 +23,22 @@ pub struct Words {
     pub odd: bool,
 }
 
-// The words of a block with the numbers of its opening and closing brackets.
+// The two facts before a block: whether it begins inside a string, and whether an odd run of backslashes stands just before it.
+#[derive(Clone, Copy)]
+pub struct Before {
+    pub inside: bool,
+    pub odd: bool,
+}
+
+// The words of a block with the numbers of its opening and closing brackets. No place has both.
 #[derive(Clone, Copy)]
 pub struct Counted {
     pub words: Words,
     pub opened: u32,
     pub closed: u32,
+    pub ghost opened_are: { opened ≡ count_ones words.opening },
+    pub ghost closed_are: { closed ≡ count_ones words.closing },
+    pub ghost apart: { NotBoth words.opening words.closing },
 }
 
 // The quotes that are real, the places inside strings, and whether an odd run of backslashes is last.
@@ -39,16 +49,13 @@ struct Strings {
     odd: bool,
 }
 
-// The bytes of a full block.
-const BLOCK: usize = 64;
-
 // The last place of a full block.
 const LAST: usize = 63;
 
-const BACKSLASH: u8 = 92;
+const BACKSLASH: u8 = b'\\';
 
 // Every bit on.
-const ALL: u64 = 0xffffffffffffffff;
+const ALL: u64 = u64::MAX;
 
 // Every even bit on.
 const EVEN: u64 = 0x5555555555555555;
@@ -70,9 +77,9 @@ fn escaped(backslashes: u64, odd: bool) -> u64
     ensures { (i : ℕ) → i < 64 → bit i result ≡ odd_run odd (λ j. bit j backslashes) i }
 {
     let first = odd as u64;
-    let own = backslashes & (first ^ ALL);
-    let starts = ((own << 1) ^ ALL) & EVEN;
-    let sum = std::num::wrapping_add_u64(starts, own);
+    let own = backslashes & !first;
+    let starts = !(own << 1) & EVEN;
+    let sum = starts.wrapping_add(own);
     sum ^ EVEN ^ (backslashes | first)
 }
 
@@ -84,31 +91,32 @@ fn spread(b: bool) -> u64
 }
 
 // Takes quotes that no odd run escapes, and the parity of these. Where neither quote nor backslash stands, a string or none goes on.
-fn find_strings(quotes: u64, backslashes: u64, inside: bool, odd: bool) -> Strings
-    ensures { StringsFound quotes backslashes inside odd result.quotes result.strings result.odd }
+fn find_strings(quotes: u64, backslashes: u64, before: Before) -> Strings
+    ensures { StringsFound quotes backslashes before.inside before.odd result.quotes result.strings result.odd }
 {
     if quotes | backslashes == 0 {
         return Strings {
             quotes: 0,
-            strings: spread(inside),
+            strings: spread(before.inside),
             odd: false,
         };
     }
-    let e = escaped(backslashes, odd);
-    let real = quotes & (e ^ ALL);
+    let e = escaped(backslashes, before.odd);
+    let real = quotes & !e;
     Strings {
         quotes: real,
-        strings: prefix_xor(real) ^ spread(inside),
-        odd: has(backslashes & (e ^ ALL), LAST),
+        strings: prefix_xor(real) ^ spread(before.inside),
+        odd: has(backslashes & !e, LAST),
     }
 }
 
 // The words with the numbers of their brackets.
-pub fn count(words: Words) -> Counted
-    ensures { result ≡ counted_of words }
+fn count(words: Words) -> Counted
+    requires { NotBoth words.opening words.closing }
+    ensures { result.words ≡ words }
 {
-    let opened = u64::count_ones(words.opening);
-    let closed = u64::count_ones(words.closing);
+    let opened = words.opening.count_ones();
+    let closed = words.closing.count_ones();
     Counted {
         words,
         opened,
@@ -116,14 +124,13 @@ pub fn count(words: Words) -> Counted
     }
 }
 
-// Sorts the first 64 bytes of a part that has them, and counts their brackets: those outside strings.
-pub fn sort_full(rest: &[u8], inside: bool, odd: bool) -> Counted
-    requires { 64 ≤ length rest.now }
-    ensures { SortedCounted rest.now inside odd result }
+// Sorts a full block, and counts its brackets: those outside strings.
+pub fn sort_full(block: &[u8; BLOCK], before: Before) -> Counted
+    ensures { Sorted block.now before.inside before.odd result.words }
 {
-    let c = classify(rest);
-    let k = find_strings(c.quotes, c.backslashes, inside, odd);
-    let outside = k.strings ^ ALL;
+    let c = classify(block);
+    let k = find_strings(c.quotes, c.backslashes, before);
+    let outside = !k.strings;
     let words = Words {
         quotes: k.quotes,
         strings: k.strings,
@@ -140,12 +147,8 @@ fn padded(rest: &[u8]) -> [u8; BLOCK]
     requires { length rest.now < 64 }
     ensures { Padded rest.now result }
 {
-    let mut block: [u8; BLOCK] = [0u8; BLOCK];
-    let mut i: usize = 0;
-    while i < rest.len() {
-        block[i] = rest[i];
-        i += 1;
-    }
+    let mut block = [0; BLOCK];
+    block[..rest.len()].copy_from_slice(rest);
     block
 }
 
@@ -161,23 +164,16 @@ fn size_mask(n: usize) -> u64
 fn odd_after(rest: &[u8], odd: bool) -> bool
     ensures { result ≡ odd_before odd rest.now (length rest.now) }
 {
-    let mut run = odd;
-    let mut i: usize = 0;
-    while i < rest.len() {
-        let byte = rest[i];
-        run = byte == BACKSLASH && !run;
-        i += 1;
-    }
-    run
+    rest.iter()
+        .fold(odd, |run, &byte| byte == BACKSLASH && !run)
 }
 
 // Sorts a part shorter than a block: padded, and the words cut to its bytes. The zeros behind it hide the run at its end.
-fn sort_short(rest: &[u8], inside: bool, odd: bool) -> Words
+fn sort_short(rest: &[u8], before: Before) -> Words
     requires { length rest.now < 64 }
-    ensures { Sorted rest.now inside odd result }
+    ensures { Sorted rest.now before.inside before.odd result }
 {
-    let pad = padded(rest);
-    let full = sort_full(&pad, inside, odd);
+    let full = sort_full(&padded(rest), before);
     let w = full.words;
     let mask = size_mask(rest.len());
     Words {
@@ -186,7 +182,7 @@ fn sort_short(rest: &[u8], inside: bool, odd: bool) -> Words
         opening: w.opening & mask,
         closing: w.closing & mask,
         inside: w.inside,
-        odd: odd_after(rest, odd),
+        odd: odd_after(rest, before.odd),
     }
 }
 
@@ -195,9 +191,16 @@ fn sort_short(rest: &[u8], inside: bool, odd: bool) -> Words
 pub fn sort_block(rest: &[u8], inside: bool, odd: bool) -> Words
     ensures { Sorted rest.now inside odd result }
 {
-    if rest.len() >= BLOCK {
-        let full = sort_full(rest, inside, odd);
-        return full.words;
+    let before = Before { inside, odd };
+    match rest.first_chunk::<BLOCK>() {
+        Some(block) => sort_full(block, before).words,
+        None => sort_short(rest, before),
     }
-    sort_short(rest, inside, odd)
+}
+
+// The same with the numbers of its brackets.
+pub fn sort_counted(rest: &[u8], before: Before) -> Counted
+    ensures { Sorted rest.now before.inside before.odd result.words }
+{
+    count(sort_block(rest, before.inside, before.odd))
 }

@@ -1,32 +1,38 @@
 -- From what is admitted beside the shortest record to what is told of the pile: that record is taken, so that the query alone decides.
 -- Assumes nothing.
+use Rattle.std.specs.Prelude.{Option, Some, None, Ok, Err, unwrap_or}
+use Rattle.std.specs.Option.{is_some}
 use mathlib.Core.Path.{◌≡◌, refl, sym, ap, ◌∙◌}
 use mathlib.Core.List.{List, [], ◌∷◌}
-use mathlib.Core.Bool.{false}
-use mathlib.Core.Option.{Option, none}
-use Prim.Native.Nat.{ℕ, zero, suc, ◌≤◌}
+use mathlib.Core.Bool.{Bool, false}
+use Prim.Native.Nat.{ℕ, zero, suc}
 use native.Mathlib.Omega.{arith}
-use denote.Enum.Declared.{tag_of}
 use Rattle.encoding.specs.Verdict.{Verdict, taken}
+use Rattle.encoding.specs.Refusals.{number_of, refused}
+use Rattle.encoding.specs.declared.refusals.Refusal.{Refusal}
 use Rattle.json_text.specs.Verdict.{record_verdict}
-use Rattle.query.specs.Verdict.{max_steps, query_verdict, steps_in}
-use Rattle.query_parser.specs.Holds.{Holds}
+use Rattle.query.specs.Steps.{Step}
+use Rattle.query.specs.Verdict.{query_verdict, steps_in}
+use Rattle.query_parser.specs.declared.compiled.Compiled.{Compiled}
 use Rattle.select.specs.PileBoundOf.{pile_bound}
-use Rattle.answers.specs.Bound.{is_bound, at_most, bounded_if, frames_if, bounded, frames_bound, BoundsPile}
+use Rattle.answers.specs.Bound.{max_frames, is_bound, at_most, bounded_if, frames_if, bounded, frames_bound, BoundsPile}
 use Rattle.answers.specs.Lister.{or_else, input_verdict}
 use Rattle.answers.proofs.ListerIs.{refuses_first}
 use Rattle.answers.specs.WithinLaws.{taken_query, query_is_taken}
 use Rattle.lister.specs.Answers.{Admits}
-use Rattle.lister.specs.declared.Input.{Input}
+use Rattle.encoding.specs.RefusalLaws.{some_ground}
 use Rattle.bound.specs.Told.{DeepSteps, told}
-use Rattle.bound.specs.declared.Frames.{Frames}
-use Rattle.bound.specs.declared.Frames.TheVariants.{AtMost, NoBound}
-use Rattle.bound.specs.contracts.Frames as F
 
--- what is told by no number
-pub no_bound : (r : Frames) → tag_of F.the_type r ≡ 1 → none ≡ told r
-no_bound (AtMost k) t = absurd (omega arith)
-no_bound NoBound t = refl
+-- what is told, as a test and as a number
+pub told_bounded : (o : Option ℕ) → is_some o ≡ is_bound (told o)
+unfolding is_bound
+told_bounded (Some k) = refl
+told_bounded None = refl
+
+pub told_frames : (o : Option ℕ) → unwrap_or o max_frames ≡ at_most (told o)
+unfolding at_most
+told_frames (Some k) = refl
+told_frames None = refl
 
 abbrev shortest : List ℕ
 shortest = 0x30 ∷ []
@@ -43,47 +49,36 @@ only_query q = ap (or_else (query_verdict q)) shortest_taken ∙ go (query_verdi
     go zero e = let t = query_is_taken (taken_query q e).1 in ap (λ (v : Verdict). or_else v taken) t ∙ sym t
     go (suc g) e = refuses_first (query_verdict q) taken (omega arith)
 
-module _ (q names : List ℕ) {x : Input} (h : Admits q shortest names x) where
-  ground_is : x.ground ≡ (query_verdict q).ground
-  ground_is = h.ground_is ∙ ap (λ (v : Verdict). v.ground) (only_query q)
-
-  place_is : x.place ≡ (query_verdict q).place
-  place_is = h.place_is ∙ ap (λ (v : Verdict). v.place) (only_query q)
-
-  pub query_refused : (x.ground ≡ 0 → ⊥) → BoundsPile q x.ground x.place false 0
+module _ (q names : List ℕ) where
+  pub query_refused : {e : Refusal} → Admits q shortest names (Err e) → {g : ℕ} → g ≡ number_of e.ground → BoundsPile q g e.place false 0
   unfolding bounded frames_bound bounded_if frames_if
-  query_refused n = go (query_verdict q).ground refl
+  query_refused {e} h {g} f = go (query_verdict q).ground refl
     where
-      go : (g : ℕ) → (query_verdict q).ground ≡ g → BoundsPile q x.ground x.place false 0
-      go zero e = absurd (n (ground_is ∙ e))
-      go (suc g) e = record {
-        ground_is = ground_is;
-        place_is = place_is;
-        bounded_is = sym (ap (λ (n : ℕ). bounded_if n (pile_bound (steps_in q))) e);
-        frames_are = sym (ap (λ (n : ℕ). frames_if n (pile_bound (steps_in q))) e);
+      v : refused e ≡ query_verdict q
+      v = h.verdict ∙ only_query q
+
+      go : (n : ℕ) → (query_verdict q).ground ≡ n → BoundsPile q g e.place false 0
+      go zero z = absurd (some_ground e.ground (ap (λ (v : Verdict). v.ground) v ∙ z))
+      go (suc n) z = record {
+        ground_is = f ∙ ap (λ (v : Verdict). v.ground) v;
+        place_is = ap (λ (v : Verdict). v.place) v;
+        bounded_is = sym (ap (λ (n : ℕ). bounded_if n (pile_bound (steps_in q))) z);
+        frames_are = sym (ap (λ (n : ℕ). frames_if n (pile_bound (steps_in q))) z);
       }
 
-  module _ (z : x.ground ≡ 0) where
-    ground_none : (query_verdict q).ground ≡ 0
-    ground_none = sym ground_is ∙ z
+  module _ {c : Compiled} (h : Admits q shortest names (Ok c)) where
+    v : taken ≡ query_verdict q
+    v = h.verdict ∙ only_query q
 
-    place_none : (query_verdict q).place ≡ 0
-    place_none = ap (λ (v : Verdict). v.place) (query_is_taken (taken_query q ground_none).1)
+    deep_steps : DeepSteps (steps_in q) c.kinds.count c.kinds.deep
+    deep_steps = record { number = h.steps_are.count; deep = h.steps_are.deep }
 
-    held : Holds names (steps_in q) x.steps.kinds x.steps.operands
-    held = h.steps_are z
-
-    pub few_steps : x.steps.kinds.count ≤ max_steps
-    few_steps = held.fits.few
-
-    pub deep_steps : DeepSteps (steps_in q) x.steps.kinds.count x.steps.kinds.deep
-    deep_steps = record { number = held.count; deep = held.deep }
-
-    pub query_taken : {b : Option ℕ} → b ≡ pile_bound (steps_in q) → BoundsPile q 0 0 (is_bound b) (at_most b)
+    pub query_taken : (o : Option ℕ) → ((x : List Step) → DeepSteps x c.kinds.count c.kinds.deep → told o ≡ pile_bound x) → {b : Bool} {k : ℕ} →
+        b ≡ is_some o → k ≡ unwrap_or o max_frames → BoundsPile q 0 0 b k
     unfolding bounded frames_bound bounded_if frames_if
-    query_taken e = record {
-      ground_is = sym ground_none;
-      place_is = sym place_none;
-      bounded_is = ap is_bound e ∙ sym (ap (λ (n : ℕ). bounded_if n (pile_bound (steps_in q))) ground_none);
-      frames_are = ap at_most e ∙ sym (ap (λ (n : ℕ). frames_if n (pile_bound (steps_in q))) ground_none);
+    query_taken o f d e = let g = f (steps_in q) deep_steps in record {
+      ground_is = ap (λ (v : Verdict). v.ground) v;
+      place_is = ap (λ (v : Verdict). v.place) v;
+      bounded_is = d ∙ told_bounded o ∙ ap is_bound g ∙ ap (λ (v : Verdict). bounded_if v.ground (pile_bound (steps_in q))) v;
+      frames_are = e ∙ told_frames o ∙ ap at_most g ∙ ap (λ (v : Verdict). frames_if v.ground (pile_bound (steps_in q))) v;
     }

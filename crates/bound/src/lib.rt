@@ -28,32 +28,23 @@ pub struct Bound {
     pub frames: u32,
 }
 
-// What the steps of a query say of the frames.
-#[derive(Drop)]
-enum Frames {
-    AtMost(u32),
-    NoBound,
-}
-
-// What so many steps say, of which those are deep whose bits are on.
-fn frames_of(count: usize, deep: u16) -> Frames
+// The most frames that so many steps leave the pile, of which those are deep whose bits are on; none where they bound nothing.
+fn frames_of(count: usize, deep: u16) -> Option<u32>
     requires { count ≤ max_steps }
     ensures { (q : List Step) → DeepSteps q count deep → told result ≡ pile_bound q }
 {
     let mut found = false;
-    let mut i: usize = 0;
-    while i < count {
+    for i in 0..count {
         let next = bits::has(deep as u64, i);
         if found && !next {
-            return Frames::NoBound;
+            return None;
         }
         found = next;
-        i += 1;
     }
     if found {
-        return Frames::AtMost((count - 1) as u32);
+        return Some((count - 1) as u32);
     }
-    Frames::AtMost(count as u32)
+    Some(count as u32)
 }
 
 // How many frames the pile can come to, in every record, where the query is listed by either walk: by its steps, where all plain steps
@@ -62,30 +53,22 @@ pub fn bound_pile(query: &[u8]) -> Bound
     ensures { BoundsPile query.now result.ground result.place result.bounded result.frames }
 {
     let mut names: Names = [0; NAMES_SIZE];
-    let record = SHORTEST;
-    let input = admit(query, &record, &mut names);
-    if input.ground != 0 {
-        return Bound {
-            ground: input.ground,
-            place: input.place,
+    match admit(query, &SHORTEST, &mut names) {
+        Err(refusal) => Bound {
+            ground: refusal.ground.number(),
+            place: refusal.place,
             bounded: false,
             frames: 0,
-        };
-    }
-    let steps = input.steps;
-    let kinds = steps.kinds;
-    let Frames::AtMost(frames) = frames_of(kinds.count, kinds.deep) else {
-        return Bound {
-            ground: 0,
-            place: 0,
-            bounded: false,
-            frames: MAX_FRAMES,
-        };
-    };
-    Bound {
-        ground: 0,
-        place: 0,
-        bounded: true,
-        frames,
+        },
+        Ok(steps) => {
+            let kinds = steps.kinds;
+            let frames = frames_of(kinds.count, kinds.deep);
+            Bound {
+                ground: 0,
+                place: 0,
+                bounded: frames.is_some(),
+                frames: frames.unwrap_or(MAX_FRAMES),
+            }
+        }
     }
 }

@@ -14,7 +14,8 @@ use Rattle.bits.specs.Laws.{lt_or_ge, bit_or_lem, bit_xor_lem, bit-zero, bit_alo
 use Rattle.bits.specs.Truth.{xor_false, neither, or_second}
 use Rattle.brackets.specs.Depth.{after_place, depth_at}
 use Rattle.brackets.specs.DepthLaws.{after_le, depth_quiet_to}
-use Rattle.brackets.specs.Closing.{Cleared, NotBoth, FindsClosing}
+use Rattle.blocks.specs.Parts.{NotBoth}
+use Rattle.brackets.specs.Closing.{Cleared, ClosesAt, StaysOpen}
 
 -- ---- one bit less
 
@@ -73,15 +74,14 @@ counted f g x (suc m) n h =
     step false false (suc n) x h r = r (suc n) (omega arith) ∙ omega arith
 
 pub passed_counted : {a b n opened closed : ℕ} → a < 2 ^ 64 → b < 2 ^ 64 → NotBoth a b → opened ≡ ones a → closed ≡ ones b → closed < n
-    → FindsClosing a b n 64 (n + opened - closed)
+    → StaysOpen a b n (n + opened - closed)
 passed_counted {a} {b} {n} {opened} {closed} fa fb apart o c h =
     let x : opened ≡ count_on 64 (λ j. bit j a) = o ∙ ones_bits a fa in
     let y : closed ≡ count_on 64 (λ j. bit j b) = c ∙ ones_bits b fb in
     record {
-      small = omega arith;
       few = omega (arith, o, ones-le 64 a fa);
-      found = λ l. absurd (omega arith);
-      none = λ l. (omega arith, counted (λ j. bit j a) (λ j. bit j b) apart 64 n (omega arith) ∙ ap₂ (λ (u v : ℕ). n + u - v) (sym x) (sym y));
+      some = omega arith;
+      behind = counted (λ j. bit j a) (λ j. bit j b) apart 64 n (omega arith) ∙ ap₂ (λ (u v : ℕ). n + u - v) (sym x) (sym y);
     }
 
 -- ---- bracket by bracket
@@ -140,12 +140,11 @@ module _ {a b n left level : ℕ} (v : Counting a b n left level) where
       depth_quiet_to (λ j. bit j a) (λ j. bit j b) n v.upto i h (λ j l r. neither (bit j a) (bit j b) (sym (v.rest j l) ∙ none j r)) ∙ v.level_is
 
   -- nothing is left
-  pub counting_none : left ≡ 0 → FindsClosing a b n 64 level
+  pub counting_none : left ≡ 0 → StaysOpen a b n level
   counting_none z = record {
-    small = omega arith;
     few = omega (arith, v.few, v.small);
-    found = λ l. absurd (omega arith);
-    none = λ l. (v.some, quiet 64 v.small (λ j r. ap (bit j) z ∙ bit-zero j));
+    some = v.some;
+    behind = quiet 64 v.small (λ j r. ap (bit j) z ∙ bit-zero j);
   }
 
   module _ {i : ℕ} (some_left : left ≡ 0 → ⊥) (low : Lowest 64 left i) where
@@ -186,15 +185,11 @@ module _ {a b n left level : ℕ} (v : Counting a b n left level) where
           ap (after_place (bit i a) (bit i b)) level_before ∙ one_of_two (bit i a) (bit i b) level closes ∙ sym next
 
       -- none: it is the one that is looked for
-      pub counting_found : level' ≡ 0 → FindsClosing a b n i 0
+      pub counting_found : level' ≡ 0 → ClosesAt a b n i
       counting_found z = record {
-        small = omega (arith, next_lt);
-        few = omega arith;
-        found = λ l. (
-          level_before ∙ last_closes (bit i a) level v.some (sym next ∙ z),
-          ap (depth_at (λ j. bit j a) (λ j. bit j b) n) (add-one i) ∙ level_after ∙ z,
-        );
-        none = λ l. absurd (omega (arith, next_lt));
+        in_block = next_lt;
+        before = level_before ∙ last_closes (bit i a) level v.some (sym next ∙ z);
+        behind = ap (depth_at (λ j. bit j a) (λ j. bit j b) n) (add-one i) ∙ level_after ∙ z;
       }
 
       -- some: the search goes on without it

@@ -2,6 +2,8 @@
 use Rattle.std.specs.Prelude.{◌≡◌, true, false, ℕ, ◌+◌, ◌^◌, ◌<◌, ◌≤◌}
 use Rattle.bits.specs.Bits.{bit}
 use Rattle.brackets.specs.Depth.{depth_at}
+use Rattle.brackets.specs.declared.Found.{Found}
+use Rattle.brackets.specs.declared.Found.TheVariants.{At, Open}
 
 -- r is w without its bit i, and has 64 bits too
 pub record Cleared (w i r : ℕ) : Type 0 where
@@ -9,14 +11,19 @@ pub record Cleared (w i r : ℕ) : Type 0 where
   pub off : bit i r ≡ false
   pub other : (j : ℕ) → (j ≡ i → ⊥) → bit j r ≡ bit j w
 
--- no place has both an opening and a closing bracket
-abbrev pub NotBoth : (opening closing : ℕ) → Type 0
-NotBoth a b = (j : ℕ) → bit j a ≡ true → bit j b ≡ true → ⊥
+-- the bracket at `place` closes the last of n open ones, by a block's words three and four
+pub record ClosesAt (opening closing n place : ℕ) : Type 0 where
+  pub in_block : place < 64
+  pub before : depth_at (λ j. bit j opening) (λ j. bit j closing) n place ≡ 1
+  pub behind : depth_at (λ j. bit j opening) (λ j. bit j closing) n (place + 1) ≡ 0
 
--- the place of the bracket that closes the last of n open ones, by a block's words three and four; or 64, and how many are open after the block
-pub record FindsClosing (opening closing n place after : ℕ) : Type 0 where
-  pub small : place ≤ 64
+-- none in the block closes it, and `after` are open after the block
+pub record StaysOpen (opening closing n after : ℕ) : Type 0 where
   pub few : after ≤ n + 64
-  pub found : place < 64 → (depth_at (λ j. bit j opening) (λ j. bit j closing) n place ≡ 1)
-      × (depth_at (λ j. bit j opening) (λ j. bit j closing) n (place + 1) ≡ 0)
-  pub none : 64 ≤ place → (1 ≤ after) × (depth_at (λ j. bit j opening) (λ j. bit j closing) n 64 ≡ after)
+  pub some : 1 ≤ after
+  pub behind : depth_at (λ j. bit j opening) (λ j. bit j closing) n 64 ≡ after
+
+-- what is found in a block for the last of n open ones
+abbrev pub FindsClosing : (opening closing n : ℕ) → Found → Type 0
+FindsClosing a b n (At place) = ClosesAt a b n place
+FindsClosing a b n (Open after) = StaysOpen a b n after

@@ -3,21 +3,20 @@
 
 ghost use Rattle.std.specs.Prelude.{◌≡◌, true, ◌+◌, ◌≤◌, ◌<◌};
 ghost use Rattle.bits.specs.Bits.{bit};
-ghost use Rattle.blocks.specs.Counts.{counted_of};
-ghost use Rattle.brackets.specs.Closing.{Cleared, NotBoth, FindsClosing};
+ghost use Rattle.brackets.specs.Closing.{Cleared, FindsClosing};
 ghost use Rattle.brackets.specs.Depth.{after_place};
 ghost use Rattle.json_text.specs.Verdict.{max_bytes};
 
 use bits::{has, lowest};
 use blocks::Counted;
 
-const BLOCK: usize = 64;
-
-// The place in its block of the bracket that closes the last open one, or 64; and how many are open after the block.
-#[derive(Drop)]
-pub struct Found {
-    pub place: usize,
-    pub depth: usize,
+// Where the last of some open brackets is closed.
+#[derive(Clone, Copy)]
+pub enum Found {
+    // By the bracket at this place of the block.
+    At(usize),
+    // Not in the block, after which so many are open.
+    Open(usize),
 }
 
 // The word without its bit i.
@@ -43,7 +42,7 @@ fn next_level(opening: u64, i: usize, level: usize) -> usize
 // Finds the bracket that closes the last of `depth` open ones, bracket by bracket.
 pub fn find_closing(opening: u64, closing: u64, depth: usize) -> Found
     requires { (1 ≤ depth) × (depth ≤ max_bytes + 1) }
-    ensures { FindsClosing opening closing depth result.place result.depth }
+    ensures { FindsClosing opening closing depth result }
 {
     let mut left = opening | closing;
     let mut level = depth;
@@ -52,29 +51,21 @@ pub fn find_closing(opening: u64, closing: u64, depth: usize) -> Found
         left = without(left, i);
         level = next_level(opening, i, level);
         if level == 0 {
-            return Found { place: i, depth: 0 };
+            return Found::At(i);
         }
     }
-    Found {
-        place: BLOCK,
-        depth: level,
-    }
+    Found::Open(level)
 }
 
 // The same in a block whose brackets are counted: with fewer closing brackets than are open it is passed whole.
 pub fn pass_block(block: Counted, depth: usize) -> Found
-    requires le_depth { (1 ≤ depth) × (depth ≤ max_bytes + 1) }
-    requires block_value { (block ≡ counted_of block.words) × NotBoth block.words.opening block.words.closing }
-    ensures { FindsClosing block.words.opening block.words.closing depth result.place result.depth }
+    requires { (1 ≤ depth) × (depth ≤ max_bytes + 1) }
+    ensures { FindsClosing block.words.opening block.words.closing depth result }
 {
     let opened = block.opened as usize;
     let closed = block.closed as usize;
     if closed < depth {
-        return Found {
-            place: BLOCK,
-            depth: depth + opened - closed,
-        };
+        return Found::Open(depth + opened - closed);
     }
-    let w = block.words;
-    find_closing(w.opening, w.closing, depth)
+    find_closing(block.words.opening, block.words.closing, depth)
 }

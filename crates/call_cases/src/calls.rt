@@ -1,80 +1,53 @@
 // Runs the value finder, the value reader and the block sorter on the record, and prints what comes of it.
-use cases::read_count;
-use cases::show::{print, print_next};
+use cases::{Stop, read_number};
 use std::io;
-use woodcrock::{find_value, read_value, sort_block};
+use woodcrock::{Words, find_value, read_value, sort_block};
 
 // The bytes of a block.
 const BLOCK: usize = 64;
 
-// The two facts that a block hands on.
-#[derive(Drop)]
-struct Facts {
-    inside: bool,
-    odd: bool,
-}
-
-// The facts before the first block.
-const OUTSIDE: Facts = Facts {
-    inside: false,
-    odd: false,
-};
-
 // Finds the value at an offset, and prints the three answers.
 fn run_finder(rt: &impl Print, record: &[u8], offset: usize) -> io::Result<()> {
     let found = find_value(record, offset);
-    print(rt, b"  finder")?;
-    print_next(rt, found.ground as u64)?;
-    print_next(rt, found.place as u64)?;
-    print_next(rt, found.end as u64)
+    println!(rt; "  finder {} {} {}", found.ground, found.place, found.end)
 }
 
 // Reads the value at an offset, and prints it.
 fn run_reader(rt: &impl Print, record: &[u8], offset: usize) -> io::Result<()> {
-    let value = read_value(record, offset);
-    print(rt, b"\n  reader `")?;
-    print(rt, value)?;
-    print(rt, b"`\n")
+    print!(rt; "  reader `")?;
+    rt.write_all(read_value(record, offset))?;
+    println!(rt; "`")
 }
 
-// Finds and reads the value at the offset that a text is. Answers whether it could be read.
-pub fn run_value(rt: &impl Print, text: &[u8], record: &[u8]) -> io::Result<bool> {
-    let offset = read_count(text);
-    run_finder(rt, record, offset.value)?;
-    run_reader(rt, record, offset.value)?;
-    Ok(offset.good)
+// Finds and reads the value at the offset that a text is.
+pub fn run_value(rt: &impl Print, text: &[u8], record: &[u8]) -> Result<(), Stop> {
+    let number = read_number(text);
+    let offset = number.unwrap_or_else(|bad| bad.value);
+    run_finder(rt, record, offset)?;
+    run_reader(rt, record, offset)?;
+    number?;
+    Ok(())
 }
 
-// Prints a word, in 16 hexadecimal digits.
-fn print_word(rt: &impl Print, word: u64) -> io::Result<()> {
-    print!(rt; " {word:016x}")
+// Prints the four words and the two facts of a block.
+fn print_words(rt: &impl Print, words: &Words) -> io::Result<()> {
+    print!(rt; "  sorter {:016x} {:016x}", words.quotes, words.strings)?;
+    print!(rt; " {:016x} {:016x}", words.opening, words.closing)?;
+    println!(rt; " {} {}", u8::from(words.inside), u8::from(words.odd))
 }
 
-// Prints the four words and the two facts of a block, and answers the facts.
-fn run_sorter(rt: &impl Print, rest: &[u8], before: Facts) -> io::Result<Facts> {
-    let words = sort_block(rest, before.inside, before.odd);
-    print(rt, b"  sorter")?;
-    print_word(rt, words.quotes)?;
-    print_word(rt, words.strings)?;
-    print_word(rt, words.opening)?;
-    print_word(rt, words.closing)?;
-    print_next(rt, words.inside as u64)?;
-    print_next(rt, words.odd as u64)?;
-    print(rt, b"\n")?;
-    Ok(Facts {
-        inside: words.inside,
-        odd: words.odd,
-    })
-}
-
-// Sorts the blocks of the record, one after the other.
+// Sorts the blocks of the record, one after the other, and hands on the facts of each. The sorter is given all that is left of the
+// record, and not a chunk of it: that it looks no further than the first block is what the cases try.
 pub fn run_blocks(rt: &impl Print, record: &[u8]) -> io::Result<()> {
-    let mut facts = OUTSIDE;
-    let mut rest = record.len();
-    while rest > 0 {
-        let at = record.len() - rest;
-        facts = run_sorter(rt, &record[at..], facts)?;
-        rest = if rest > BLOCK { rest - BLOCK } else { 0 };
+    let mut inside = false;
+    let mut odd = false;
+    let mut rest = record;
+    while !rest.is_empty() {
+        let words = sort_block(rest, inside, odd);
+        print_words(rt, &words)?;
+        inside = words.inside;
+        odd = words.odd;
+        rest = rest.get(BLOCK..).unwrap_or_default();
     }
     Ok(())
 }

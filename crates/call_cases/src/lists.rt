@@ -1,8 +1,7 @@
 // Runs a query on the record through both listers, and prints what comes of it.
-ghost use Rattle.std.specs.Prelude.{◌≤◌, length};
+ghost use Rattle.std.specs.Prelude.{◌≤◌};
 
-use cases::show::{print, print_next};
-use cases::write_text;
+use cases::{Bytes, Stop, changed};
 use std::io;
 use woodcrock::{Answer, list_jumping, list_plain};
 
@@ -15,83 +14,49 @@ pub const MAX_NUMBERS: usize = 64;
 // The most bytes of a query, and one more.
 pub const QUERY_ROOM: usize = 2048;
 
-// The same number in 64 bits.
-fn wide(number: u32) -> u64 {
-    number as u64
-}
-
-// The place after the last number of a list that is not as it was lent.
-fn changed(list: &[u32]) -> usize
-    ensures { result ≤ length list.now }
-{
-    let mut end = list.len();
-    while end > 0 {
-        let last = end - 1;
-        if list[last] != OLD {
-            return end;
-        }
-        end = last;
-    }
-    end
-}
-
-// Prints numbers, with a space before each.
-fn print_numbers(rt: &impl Print, numbers: &[u32]) -> io::Result<()> {
-    let mut i = 0;
-    while i < numbers.len() {
-        print_next(rt, wide(numbers[i]))?;
-        i += 1;
-    }
-    Ok(())
-}
-
 // Prints a list as a call leaves it: its numbers, and how many at its end are as they were lent.
 fn print_list(rt: &impl Print, list: &[u32]) -> io::Result<()> {
-    let end = changed(list);
-    print(rt, b" list")?;
-    print_numbers(rt, &list[0..end])?;
-    print(rt, b" rest")?;
-    print_next(rt, (list.len() - end) as u64)
+    let end = changed(list, OLD);
+    print!(rt; " list")?;
+    for number in &list[..end] {
+        print!(rt; " {number}")?;
+    }
+    println!(rt; " rest {}", list.len() - end)
 }
 
-// Prints the four answers of a lister, and its list after the call.
-fn print_answer(rt: &impl Print, answer: Answer, list: &[u32]) -> io::Result<()> {
-    let four = [answer.ground, answer.place, answer.pairs, answer.peak];
-    print_numbers(rt, &four)?;
-    print_list(rt, list)?;
-    print(rt, b"\n")
-}
-
-// Runs the plain lister with a list of so many numbers.
-fn run_plain(rt: &impl Print, query: &[u8], record: &[u8], numbers: usize) -> io::Result<()>
-    requires { numbers ≤ 64 }
+// Lends a lister a list of so many numbers, and prints its name, its four answers, and the list after the call.
+fn run_lister<F: FnOnce(&mut [u32]) -> Answer>(
+    rt: &impl Print,
+    name: &str,
+    numbers: usize,
+    lister: F,
+) -> io::Result<()>
+    requires listed { numbers ≤ 64 }
+    requires callable { F.IsAlwaysCallable lister }
 {
     let mut space = [OLD; MAX_NUMBERS];
-    let list = &mut space[0..numbers];
-    let answer = list_plain(query, record, list);
-    print(rt, b"  plain")?;
-    print_answer(rt, answer, list)
+    let list = &mut space[..numbers];
+    let answer = lister(list);
+    print!(rt;
+        "  {name} {} {} {} {}",
+        answer.ground, answer.place, answer.pairs, answer.peak
+    )?;
+    print_list(rt, list)
 }
 
-// Runs the jumping lister with a list of so many numbers.
-fn run_jumping(rt: &impl Print, query: &[u8], record: &[u8], numbers: usize) -> io::Result<()>
+// Runs both listers, each with a list of its own of so many numbers.
+pub fn run_query(rt: &impl Print, text: &[u8], record: &[u8], numbers: usize) -> Result<(), Stop>
     requires { numbers ≤ 64 }
 {
-    let mut space = [OLD; MAX_NUMBERS];
-    let list = &mut space[0..numbers];
-    let answer = list_jumping(query, record, list);
-    print(rt, b"  jumping")?;
-    print_answer(rt, answer, list)
-}
-
-// Runs both listers, each with a list of its own of so many numbers. Answers whether the query could be read.
-pub fn run_query(rt: &impl Print, text: &[u8], record: &[u8], numbers: usize) -> io::Result<bool>
-    requires { numbers ≤ 64 }
-{
-    let mut space = [0u8; QUERY_ROOM];
-    let query = write_text(text, &mut space);
-    let size = query.size;
-    run_plain(rt, &space[0..size], record, numbers)?;
-    run_jumping(rt, &space[0..size], record, numbers)?;
-    Ok(query.good)
+    let mut bytes = Bytes::<QUERY_ROOM>::new();
+    let written = bytes.write(text);
+    let query = bytes.as_slice();
+    run_lister(rt, "plain", numbers, |list| list_plain(query, record, list))?;
+    run_lister(
+        rt,
+        "jumping",
+        numbers,
+        |list| list_jumping(query, record, list),
+    )?;
+    Ok(written?)
 }

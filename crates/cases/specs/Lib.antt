@@ -1,2 +1,3 @@
--- The specifications of `cases`: what its functions promise of the places that they answer.
+-- The specifications of `cases`: what its functions promise of the places that they answer, and of a run that stops.
 pub mod Places
+pub mod Stops

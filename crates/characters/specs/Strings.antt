@@ -3,7 +3,9 @@ use Rattle.std.specs.Prelude.{◌≡◌, List, [], ◌∷◌, Bool, true, false,
 use Rattle.std.proofs.Math.Path.{refl}
 use Rattle.std.proofs.lemmas.Bool.{false≢true}
 use Rattle.std.proofs.Math.Option.{some, none}
-use Rattle.std.proofs.Common.{arith}
+use Rattle.std.specs.Char.{IsAsciiHexdigit, IsNotAsciiHexdigit}
+use Rattle.std.specs.Int.{IsOutOfRange}
+use Rattle.std.proofs.Common.{inl, inr, arith}
 use Rattle.lanes.specs.Kinds.{plain}
 use Rattle.swar.specs.KindLaws as Kinds
 use Rattle.swar.specs.KindLaws.{Plain, NotPlain, is_plain}
@@ -20,26 +22,16 @@ use Rattle.json_text.specs.Machine.{Ctl, in_string, escaping, hex_due, closed, S
 use Rattle.json_text.specs.MachineLaws.{inside, past, nowhere, landing, step_range, step_by}
 use Rattle.json_text.specs.Led.{Led, led_here, led_go, led_die, led_end, led_skip, led_on, led_dead}
 use Rattle.scalars.specs.Among.{Among, among_step, among_past, topped, over_all}
-use Rattle.moves.specs.Moves.{tails}
+use Rattle.moves.specs.Moves.{escape_letters, tails}
 
--- the letters that stand for one character after a backslash
-abbrev pub escape_letters : List ℕ
-escape_letters = 0x22 ∷ 0x5C ∷ 0x2F ∷ 0x62 ∷ 0x66 ∷ 0x6E ∷ 0x72 ∷ 0x74 ∷ []
-
--- whether a byte is a hexadecimal digit
-pub data HexDigit (b : ℕ) : Bool → Type 0 where
-  digit : 0x30 ≤ b → b ≤ 0x39 → HexDigit b true
-  upper : 0x41 ≤ b → b ≤ 0x46 → HexDigit b true
-  lower : 0x61 ≤ b → b ≤ 0x66 → HexDigit b true
-  below : b < 0x30 → HexDigit b false
-  between : 0x39 < b → b < 0x41 → HexDigit b false
-  middle : 0x46 < b → b < 0x61 → HexDigit b false
-  above : 0x66 < b → HexDigit b false
+-- the machine is led so in a value's string and in a member's name
+abbrev pub LedBoth : List ℕ → ℕ → (c d : Bool → Ctl) → Bool → ℕ → Type 0
+LedBoth s i c d ok r = (f : Bool) → Led s i (c f) (d f) ok r
 
 -- characters of a string are read from place i on
 pub record Character (s : List ℕ) (i : ℕ) (ok : Bool) (r : ℕ) : Type 0 where
   pub moved : ok ≡ true → i < r
-  pub led : (f : Bool) → Led s i (in_string f) (in_string f) ok r
+  pub led : LedBoth s i in_string in_string ok r
 
 -- plain bytes, the closing quote, a backslash, and what is no byte of a string
 module _ (f : Bool) (k : Stack) (ρ : Room) where
@@ -100,35 +92,42 @@ hex_above zero f k ρ b h = step_by (hex_due zero f) k ρ {o = none} (over_all (
 hex_above (suc n) f k ρ b h = step_by (hex_due (suc n) f) k ρ {o = none} (over_all (hex_rules (hex_due n f)) 0x66 b tt h)
 
 module _ (n : ℕ) (f : Bool) (k : Stack) (ρ : Room) (b : ℕ) where
-  hex_step : HexDigit b true → step (at (hex_due n f) k ρ) b ≡ at (hex_left n f) k ρ
+  hex_step : IsAsciiHexdigit b → step (at (hex_due n f) k ρ) b ≡ at (hex_left n f) k ρ
   unfolding landing
-  hex_step (digit l h) = hex_range n f k ρ 0x30 0x39 b (at (hex_left n f) k ρ) refl l h
-  hex_step (upper l h) = hex_range n f k ρ 0x41 0x46 b (at (hex_left n f) k ρ) refl l h
-  hex_step (lower l h) = hex_range n f k ρ 0x61 0x66 b (at (hex_left n f) k ρ) refl l h
+  hex_step (inl (inl d)) = hex_range n f k ρ 0x30 0x39 b (at (hex_left n f) k ρ) refl d.0 d.1
+  hex_step (inl (inr d)) = hex_range n f k ρ 0x41 0x46 b (at (hex_left n f) k ρ) refl d.0 d.1
+  hex_step (inr d) = hex_range n f k ρ 0x61 0x66 b (at (hex_left n f) k ρ) refl d.0 d.1
 
-  hex_dead : HexDigit b false → step (at (hex_due n f) k ρ) b ≡ dead
+  hex_dead : IsNotAsciiHexdigit b → step (at (hex_due n f) k ρ) b ≡ dead
   unfolding landing
-  hex_dead (below h) = hex_range n f k ρ 0x00 0x2F b dead refl (omega arith) (omega arith)
-  hex_dead (between l h) = hex_range n f k ρ 0x3A 0x40 b dead refl (omega arith) (omega arith)
-  hex_dead (middle l h) = hex_range n f k ρ 0x47 0x60 b dead refl (omega arith) (omega arith)
-  hex_dead (above h) = hex_above n f k ρ b h
+  hex_dead x = by x.0.0 x.0.1 x.1
+    where
+      by : IsOutOfRange 0x30 0x39 b → IsOutOfRange 0x41 0x46 b → IsOutOfRange 0x61 0x66 b → step (at (hex_due n f) k ρ) b ≡ dead
+      by (inl h) p q = hex_range n f k ρ 0x00 0x2F b dead refl (omega arith) (omega arith)
+      by (inr l) (inl h) q = hex_range n f k ρ 0x3A 0x40 b dead refl (omega arith) (omega arith)
+      by (inr o) (inr l) (inl h) = hex_range n f k ρ 0x47 0x60 b dead refl (omega arith) (omega arith)
+      by (inr o) (inr p) (inr l) = hex_above n f k ρ b l
 
-module _ {s : List ℕ} {a : ℕ} {c : Ctl} {f : Bool} {n i : ℕ} (p : Led s a c (hex_due n f) true i) where
-  pub hex_end_lem : length s ≤ i → Led s a c (in_string f) false i
-  hex_end_lem h = led_end p (in_string f) h refl
+-- four are due at first; where some are left, one is; and where none is, the string goes on
+pub hex_start : {s : List ℕ} {i : ℕ} (f : Bool) (n : ℕ) → n ≡ 4 → i ≤ length s → Led s i (hex_due 3 f) (hex_left n f) true i
+hex_start {s} {i} f n e h = rw e (led_here s i (hex_due 3 f) h)
 
-  pub hex_wrong : i < length s → HexDigit (get_or s i 0) false → Led s a c (in_string f) false i
-  hex_wrong h x = led_die p (in_string f) h (λ k. hex_dead n f k endless (get_or s i 0) x)
+module _ {s : List ℕ} {a : ℕ} {c : Ctl} (f : Bool) (n : ℕ) {i : ℕ} (p : Led s a c (hex_left n f) true i) where
+  module _ (l : 0 < n) where
+    hex_next : Led s a c (hex_due (n - 1) f) true i
+    hex_next = let e : n ≡ suc (n - 1) = omega arith in rw e at p
 
-  pub hex_more : i < length s → HexDigit (get_or s i 0) true → Led s a c (hex_left n f) true (i + 1)
-  hex_more h x = led_go p (hex_left n f) h (λ k ρ. hex_step n f k ρ (get_or s i 0) x)
+    pub hex_end_lem : length s ≤ i → Led s a c (in_string f) false i
+    hex_end_lem h = led_end hex_next (in_string f) h refl
 
--- digits that are left, some or none
-pub hex_some : {s : List ℕ} {a : ℕ} {c : Ctl} (f : Bool) (n : ℕ) {i : ℕ} → 0 < n → Led s a c (hex_left n f) true i → Led s a c (hex_due (n - 1) f) true i
-hex_some f n h p = let e : n ≡ suc (n - 1) = omega arith in rw e at p
+    pub hex_wrong : i < length s → IsNotAsciiHexdigit (get_or s i 0) → Led s a c (in_string f) false i
+    hex_wrong h x = led_die hex_next (in_string f) h (λ k. hex_dead (n - 1) f k endless (get_or s i 0) x)
 
-pub hex_done : {s : List ℕ} {a : ℕ} {c : Ctl} (f : Bool) (n : ℕ) {i : ℕ} → n ≤ 0 → Led s a c (hex_left n f) true i → Led s a c (in_string f) true i
-hex_done f n h p = let e : n ≡ 0 = omega arith in rw e at p
+    pub hex_more : i < length s → IsAsciiHexdigit (get_or s i 0) → (m : ℕ) → m ≡ n - 1 → Led s a c (hex_left m f) true (i + 1)
+    hex_more h x m e = rw e (led_go hex_next (hex_left (n - 1) f) h (λ k ρ. hex_step (n - 1) f k ρ (get_or s i 0) x))
+
+  pub hex_done : n ≡ 0 → {j : ℕ} → i ≡ j → Led s a c (in_string f) true j
+  hex_done z e = rw (z, e) at p
 
 -- code points from 80 (hexadecimal) on
 
@@ -215,7 +214,7 @@ wide_characters w q = record { moved = λ e. run_moved q w e; led = λ f. run_le
 
 -- an escape, and a byte that no string has
 module _ {s : List ℕ} {i : ℕ} (h : i < length s) where
-  pub escaped_character : get_or s i 0 ≡ 0x5C → {ok : Bool} {r : ℕ} → ((f : Bool) → Led s (i + 1) (escaping f) (in_string f) ok r) → Character s i ok r
+  pub escaped_character : get_or s i 0 ≡ 0x5C → {ok : Bool} {r : ℕ} → LedBoth s (i + 1) escaping in_string ok r → Character s i ok r
   escaped_character e p =
       record {
         moved = λ x. omega (arith, (p true).from);
@@ -245,8 +244,8 @@ module _ {s : List ℕ} {a : ℕ} {c : Ctl} {f : Bool} {i : ℕ} (p : Led s a c 
   string_open h = led_end p (closed f) h refl
 
   -- more characters
-  pub string_on : {ok : Bool} {r : ℕ} → Character s i ok r → ok ≡ true → Led s a c (in_string f) true r
-  string_on x e = led_on p (rw e at (x.led f))
+  pub string_on : {r : ℕ} → Character s i true r → Led s a c (in_string f) true r
+  string_on x = led_on p (x.led f)
 
-  pub string_wrong : {ok : Bool} {r : ℕ} → Character s i ok r → ok ≡ false → Led s a c (closed f) false r
-  string_wrong x e = led_on p (led_dead (closed f) (rw e at (x.led f)))
+  pub string_wrong : {r : ℕ} → Character s i false r → Led s a c (closed f) false r
+  string_wrong x = led_on p (led_dead (closed f) (x.led f))

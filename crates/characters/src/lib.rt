@@ -2,141 +2,66 @@
 // of moves.
 #![tactic(auto)]
 
-ghost use Rattle.std.specs.Prelude.{Bool, ◌≡◌, ◌≤◌, ◌<◌, length, get_or};
-ghost use Rattle.encoding.specs.RowTable.{RowTable};
+ghost use Rattle.std.specs.Prelude.{◌≡◌, ◌≤◌, ◌<◌, length, get_or};
+ghost use Rattle.encoding.specs.Reads.{Reads};
 ghost use Rattle.lanes.specs.Kinds.{plain};
 ghost use Rattle.swar.specs.Run.{Run};
 ghost use Rattle.swar.specs.KindLaws.{NotPlain};
 ghost use Rattle.json_text.specs.Machine.{in_string, escaping, hex_due, closed};
-ghost use Rattle.json_text.specs.Led.{Led};
-ghost use Rattle.scalars.specs.Among.{Among};
-ghost use Rattle.moves.specs.Moves.{Leads};
-ghost use Rattle.characters.specs.Strings.{escape_letters, HexDigit, Character};
+ghost use Rattle.characters.specs.Strings.{LedBoth, Character};
 
-use encoding::{Rows, Scan};
-
-const QUOTE: u8 = 0x22;
-
-const BACKSLASH: u8 = 0x5C;
-
-const SMALL_U: u8 = 0x75;
+use encoding::{Dead, Read};
+use lanes::Plain;
+use moves::Moves;
 
 // How many hexadecimal digits an escaped code unit has.
-const HEX_DIGITS: u8 = 4;
-
-// Whether `b` is a hexadecimal digit.
-fn is_hex(b: u8) -> bool
-    ensures { HexDigit b result }
-{
-    if b < b'0' {
-        return false;
-    }
-    if b <= b'9' {
-        return true;
-    }
-    if b < b'A' {
-        return false;
-    }
-    if b <= b'F' {
-        return true;
-    }
-    if b < b'a' {
-        return false;
-    }
-    if b <= b'f' {
-        return true;
-    }
-    false
-}
+const HEX_DIGITS: usize = 4;
 
 // Reads the four hexadecimal digits of an escape.
-fn hex_end(s: &[u8], from: usize) -> Scan
+fn hex_end(s: &[u8], from: usize) -> Read
     requires { from ≤ length s.now }
-    ensures { (f : Bool) → Led s.now from (hex_due 3 f) (in_string f) result.ok result.at }
+    ensures { Reads (LedBoth s.now from (hex_due 3) in_string) result }
 {
-    let mut i = from;
-    let mut left = HEX_DIGITS;
-    while left > 0 {
-        if i >= s.len() {
-            return Scan { ok: false, at: i };
+    for i in from..from + HEX_DIGITS {
+        if i >= s.len() || !s[i].is_ascii_hexdigit() {
+            return Err(Dead { at: i });
         }
-        if !is_hex(s[i]) {
-            return Scan { ok: false, at: i };
-        }
-        i += 1;
-        left -= 1;
     }
-    Scan { ok: true, at: i }
+    Ok(from + HEX_DIGITS)
 }
 
-// Whether `b` is a letter that stands for one character after a backslash.
-fn is_escape(b: u8) -> bool
-    ensures { Among escape_letters b result }
-{
-    if b == QUOTE {
-        return true;
-    }
-    if b == BACKSLASH {
-        return true;
-    }
-    if b == b'/' {
-        return true;
-    }
-    if b == b'b' {
-        return true;
-    }
-    if b == b'f' {
-        return true;
-    }
-    if b == b'n' {
-        return true;
-    }
-    if b == b'r' {
-        return true;
-    }
-    if b == b't' {
-        return true;
-    }
-    false
-}
-
-// Reads what follows a backslash.
-fn escape_end(s: &[u8], at: usize) -> Scan
+// Reads what follows a backslash: a letter that stands for one character, or a `u` and its digits.
+fn escape_end(s: &[u8], at: usize) -> Read
     requires { at ≤ length s.now }
-    ensures { (f : Bool) → Led s.now at (escaping f) (in_string f) result.ok result.at }
+    ensures { Reads (LedBoth s.now at escaping in_string) result }
 {
     if at >= s.len() {
-        return Scan { ok: false, at };
+        return Err(Dead { at });
     }
-    if is_escape(s[at]) {
-        return Scan {
-            ok: true,
-            at: at + 1,
-        };
+    match s[at] {
+        b'"' | b'\\' | b'/' | b'b' | b'f' | b'n' | b'r' | b't' => Ok(at + 1),
+        b'u' => hex_end(s, at + 1),
+        _ => Err(Dead { at }),
     }
-    if s[at] != SMALL_U {
-        return Scan { ok: false, at };
-    }
-    hex_end(s, at + 1)
 }
 
 // Reads what is not a plain byte nor the closing quote: the characters to which the moves lead, or, where they lead to none, one escape or
 // the code points from 80 (hexadecimal) on that stand there.
-fn character_end(s: &[u8], rows: &Rows, table: &[u64; 256], at: usize) -> Scan
-    requires { RowTable rows.now × (at < length s.now) × NotPlain (get_or s.now at 0) × (get_or s.now at 0 ≡ 0x22 → ⊥) × Leads table.now }
-    ensures { Character s.now at result.ok result.at }
+fn character_end(s: &[u8], moves: &Moves, at: usize) -> Read
+    requires { (at < length s.now) × NotPlain (get_or s.now at 0) × (get_or s.now at 0 ≡ 0x22 → ⊥) }
+    ensures { Reads (Character s.now at) result }
 {
-    let end = moves::characters_end(table, s, at);
+    let end = moves.characters_end(s, at);
     if end > at {
-        return Scan { ok: true, at: end };
+        return Ok(end);
     }
-    if !encoding::narrow(rows, s[at]) {
-        return encoding::code_points(rows, s, at);
+    if !encoding::narrow(s[at]) {
+        return encoding::code_points(s, at);
     }
-    if s[at] == BACKSLASH {
+    if s[at] == b'\\' {
         return escape_end(s, at + 1);
     }
-    Scan { ok: false, at }
+    Err(Dead { at })
 }
 
 // The end of the plain bytes from `at` on; at once where a quote stands there.
@@ -144,33 +69,24 @@ fn rest_run(s: &[u8], at: usize) -> usize
     requires { at ≤ length s.now }
     ensures { Run plain s.now at result }
 {
-    if at < s.len() {
-        if s[at] == QUOTE {
-            return at;
-        }
+    if at < s.len() && s[at] == b'"' {
+        return at;
     }
-    swar::plain_run(s, at)
+    swar::run::<Plain>(s, at)
 }
 
 // Reads a string from what follows its opening quote up to the place after its closing quote.
-pub fn string_end(s: &[u8], rows: &Rows, table: &[u64; 256], from: usize) -> Scan
-    requires { RowTable rows.now × (from ≤ length s.now) × Leads table.now }
-    ensures { (f : Bool) → Led s.now from (in_string f) (closed f) result.ok result.at }
+pub fn string_end(s: &[u8], moves: &Moves, from: usize) -> Read
+    requires { from ≤ length s.now }
+    ensures { Reads (LedBoth s.now from in_string closed) result }
 {
-    let mut i = swar::plain_run(s, from);
+    let mut i = swar::run::<Plain>(s, from);
     while i < s.len() {
-        if s[i] == QUOTE {
-            return Scan {
-                ok: true,
-                at: i + 1,
-            };
+        if s[i] == b'"' {
+            return Ok(i + 1);
         }
-        let character = character_end(s, rows, table, i);
-        let at = character.at;
-        if !character.ok {
-            return Scan { ok: false, at };
-        }
-        i = rest_run(s, at);
+        let end = character_end(s, moves, i)?;
+        i = rest_run(s, end);
     }
-    Scan { ok: false, at: i }
+    Err(Dead { at: i })
 }

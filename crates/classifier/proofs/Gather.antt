@@ -23,16 +23,16 @@ column_odd : (g : ℕ → Bool) (k j : ℕ) → j % 2 ≡ 1 → column g k j ≡
 unfolding column
 column_odd g k j e = ap (λ (x : Bool). x && g (8 * j + k)) (ne_eqb (j % 2) 0 (λ (z : j % 2 ≡ 0). omega arith))
 
-module _ (m : List ℕ) (at w v : ℕ) (low : Loaded 8 m at w) (high : Loaded 8 m (at + 8) v) (g : ℕ → Bool) (packed : Packed g m at 16) where
+module _ (m : List ℕ) (w v : ℕ) (low : Loaded 8 m 0 w) (high : Loaded 8 m 8 v) (g : ℕ → Bool) (packed : Packed g m 16) where
   low_bit : (n : ℕ) → n < 64 → bit n w ≡ column g (n / 8) (n % 8)
-  unfolding Packed byte_at
-  low_bit n h = low.bits n h ∙ packed (n / 8) (omega arith) (n % 8) (omega arith)
+  unfolding byte_at
+  low_bit n h =
+      let e : 0 + n / 8 ≡ n / 8 = omega arith in
+      low.bits n h ∙ ap (λ (x : ℕ). bit (n % 8) (byte_at m x)) e ∙ packed.bytes (n / 8) (omega arith) (n % 8) (omega arith)
 
   high_bit : (n : ℕ) → n < 64 → bit n v ≡ column g (8 + n / 8) (n % 8)
-  unfolding Packed byte_at
-  high_bit n h =
-      let e : at + 8 + n / 8 ≡ at + (8 + n / 8) = omega arith in
-      high.bits n h ∙ ap (λ (x : ℕ). bit (n % 8) (byte_at m x)) e ∙ packed (8 + n / 8) (omega arith) (n % 8) (omega arith)
+  unfolding byte_at
+  high_bit n h = high.bits n h ∙ packed.bytes (8 + n / 8) (omega arith) (n % 8) (omega arith)
 
   -- an even row is of the first eight bytes, and nothing of the next eight is moved there
   even_row : (n i : ℕ) → n < 64 → n % 2 ≡ 0 → 8 * (n % 8) + n / 8 ≡ i → (bit n w || (leb 1 n && bit (n - 1) v)) ≡ g i

@@ -1,11 +1,14 @@
 // Finds the quotes, backslashes and brackets among 64 bytes: a word for each class, with a bit for each byte.
 #![tactic(auto)]
 
-ghost use Rattle.std.specs.Prelude.{◌≡◌, ℕ, ◌+◌, ◌*◌, ◌/◌, ◌%◌, ◌<◌, ◌≤◌, length};
+ghost use Rattle.std.specs.Prelude.{◌≡◌, ℕ, ◌+◌, ◌*◌, ◌/◌, ◌%◌, ◌<◌};
 ghost use Rattle.bits.specs.Bits.{bit};
-ghost use Rattle.classifier.specs.Packed.{Swapped, spaced, PackedClasses, Unpacked, Classified};
+ghost use Rattle.classifier.specs.Packed.{Swapped, FourFlags, PackedClasses, Unpacked, Classified};
 
 use bits::load8;
+
+// The bytes of a full block.
+pub const BLOCK: usize = 64;
 
 // The places of the bytes that the words are made of.
 #[derive(Drop)]
@@ -16,18 +19,22 @@ pub struct Classes {
     pub closing: u64,
 }
 
-// The bytes of a full block.
-const BLOCK: usize = 64;
+// The flags of a block for each class, four in a byte: byte i has those of the bytes i, i + 16, i + 32 and i + 48.
+#[derive(Drop)]
+struct Flags {
+    quotes: [u8; 16],
+    backslashes: [u8; 16],
+    opening: [u8; 16],
+    closing: [u8; 16],
+}
 
-const QUOTE: u8 = 34;
+const QUOTE: u8 = b'"';
 
-const BACKSLASH: u8 = 92;
+const BACKSLASH: u8 = b'\\';
 
-// The opening brace.
-const OPENING: u8 = 123;
+const OPENING: u8 = b'{';
 
-// The closing brace.
-const CLOSING: u8 = 125;
+const CLOSING: u8 = b'}';
 
 // The bit that makes a square bracket the brace of its kind.
 const BRACE: u8 = 32;
@@ -50,69 +57,56 @@ fn transpose(x: u64) -> u64
     swap(pairs, 28, 0x00000000f0f0f0f0)
 }
 
-// Four flags in one byte, at its even places.
-fn four(a: bool, b: bool, c: bool, d: bool) -> u8
-    ensures { (j : ℕ) → j < 8 → bit j result ≡ spaced a b c d j }
+// Which of four bytes `is` tells, as flags in one byte, at its even places. They come one by one, because the compiler joins an array of
+// four bytes into one number and takes it apart again for each flag.
+fn four<F: Fn(u8) -> bool>(a: u8, b: u8, c: u8, d: u8, is: F) -> u8
+    requires { F.IsAlwaysCallable is }
+    ensures { FourFlags (F.post is) a b c d result }
 {
-    a as u8 | (b as u8) << 2 | (c as u8) << 4 | (d as u8) << 6
+    is(a) as u8 | (is(b) as u8) << 2 | (is(c) as u8) << 4 | (is(d) as u8) << 6
 }
 
-// The flags of the first 64 bytes, four in a byte: 16 bytes for the quotes, then for backslashes, for opening and for closing brackets.
-fn pack(s: &[u8]) -> [u8; BLOCK]
-    requires { 64 ≤ length s.now }
-    ensures { PackedClasses s.now result 16 }
+// The flags of a block.
+fn pack(s: &[u8; BLOCK]) -> Flags
+    ensures { PackedClasses s.now result.quotes result.backslashes result.opening result.closing 16 }
 {
-    let mut m: [u8; BLOCK] = [0u8; BLOCK];
-    let mut i: usize = 0;
-    while i < 16 {
+    let mut m = Flags {
+        quotes: [0; 16],
+        backslashes: [0; 16],
+        opening: [0; 16],
+        closing: [0; 16],
+    };
+    for i in 0..16 {
         let a = s[i];
         let b = s[i + 16];
         let c = s[i + 32];
         let d = s[i + 48];
-        m[i] = four(a == QUOTE, b == QUOTE, c == QUOTE, d == QUOTE);
-        m[i + 16] = four(
-            a == BACKSLASH,
-            b == BACKSLASH,
-            c == BACKSLASH,
-            d == BACKSLASH,
-        );
-        m[i + 32] = four(
-            (a | BRACE) == OPENING,
-            (b | BRACE) == OPENING,
-            (c | BRACE) == OPENING,
-            (d | BRACE) == OPENING,
-        );
-        m[i + 48] = four(
-            (a | BRACE) == CLOSING,
-            (b | BRACE) == CLOSING,
-            (c | BRACE) == CLOSING,
-            (d | BRACE) == CLOSING,
-        );
-        i += 1;
+        m.quotes[i] = four(a, b, c, d, |byte| byte == QUOTE);
+        m.backslashes[i] = four(a, b, c, d, |byte| byte == BACKSLASH);
+        m.opening[i] = four(a, b, c, d, |byte| byte | BRACE == OPENING);
+        m.closing[i] = four(a, b, c, d, |byte| byte | BRACE == CLOSING);
     }
     m
 }
 
-// The word of the flags that are packed in 16 bytes from `at` on: the first eight have its even rows, the next eight its odd rows.
-fn word(m: &[u8; BLOCK], at: usize) -> u64
-    requires { at + 16 ≤ 64 }
-    ensures { Unpacked m.now at result }
+// The word of packed flags: the first eight bytes have its even rows, the next eight its odd rows.
+fn word(m: &[u8; 16]) -> u64
+    ensures { Unpacked m.now result }
 {
-    let even = load8(m, at);
-    let odd = load8(m, at + 8);
+    let even = load8(m, 0);
+    let odd = load8(m, 8);
     transpose(even | (odd << 1))
 }
 
-// The places of quotes, backslashes and brackets among the first 64 bytes.
-pub fn classify(s: &[u8]) -> Classes
-    requires { 64 ≤ length s.now }
+// The places of quotes, backslashes and brackets in a block.
+pub fn classify(s: &[u8; BLOCK]) -> Classes
     ensures { Classified s.now result.quotes result.backslashes result.opening result.closing }
 {
     let m = pack(s);
     Classes {
-        quotes: word(&m, 0),
-        backslashes: word(&m, 16),
-        opening: word(&m, 32),
-        closing: word(&m, 48),
+        quotes: word(&m.quotes),
+        backslashes: word(&m.backslashes),
+        opening: word(&m.opening),
+        closing: word(&m.closing),
     }
 }

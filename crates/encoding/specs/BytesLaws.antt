@@ -1,15 +1,23 @@
 -- Laws of the bytes of a range and of blanks: a test's outcome from the bounds, and `put x s` as the bytes of x alone and then s, so that
 -- places and lengths can be counted. Assumes nothing.
-use Rattle.std.specs.Prelude.{◌≡◌, refl, List, [], ◌∷◌, ◌++◌, true, false, ◌&&◌, ◌↔◌, ℕ, ◌+◌, ◌≤◌, ◌<◌, T, leb, eqb, length, get_or, drop}
+use Rattle.std.specs.Prelude.{◌≡◌, refl, List, [], ◌∷◌, ◌++◌, true, false, ◌&&◌, ◌↔◌, ℕ, ◌+◌, ◌-◌, ◌≤◌, ◌<◌, T, leb, eqb, length, get_or, take, drop}
 use Rattle.std.proofs.Common.{ap, subst, sym, ◌∙◌, add-one, arith, leb→le, length-append, drop-cons, le-leb, eqb-true, eq-eqb}
 use Rattle.std.proofs.Math.Bool.{and-false, and-eq-true_iff}
 use Rattle.std.proofs.lemmas.Bool.{false≢true, lt-leb}
+use Rattle.std.proofs.Math.Seq.{slice}
+use Rattle.std.proofs.lemmas.List.{drop-take}
 use Rattle.bits.specs.Truth.{and_left, and_right}
 use Rattle.encoding.specs.Bytes.{In, put_in, Blanks, blank_byte, put_blanks, same_numbers}
 
 -- what stands at a place is the byte there and what follows it
 pub byte_at_lem : (s : List ℕ) (i : ℕ) → i < length s → drop i s ≡ get_or s i 0 ∷ drop (i + 1) s
 byte_at_lem s i h = rw add-one (drop-cons s i 0 h)
+
+-- the part between two places, as it is lent
+pub part_is : (x y : ℕ) (s : List ℕ) → x ≤ y → take (y - x) (drop x s) ≡ slice x y s
+part_is x y s h =
+    let e : x + (y - x) ≡ y = omega arith in
+    sym (drop-take x (y - x) s) ∙ ap (λ (n : ℕ). drop x (take n s)) e
 
 -- the test of a range, from what is known of the byte
 module _ (lo hi b : ℕ) where

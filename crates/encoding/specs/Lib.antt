@@ -13,6 +13,9 @@ pub mod Points
 pub mod PointsLaws
 pub mod Prefix
 pub mod PrefixLaws
+pub mod Reads
+pub mod RefusalLaws
+pub mod Refusals
 pub mod RowTable
 pub mod Unescape
 pub mod UnescapeLaws

@@ -1,129 +1,86 @@
 // A value that is ahead of the jumping walk: passed at once, or, where it is a container with items that is not dead, entered.
 #![tactic(auto)]
 
-ghost use Rattle.std.specs.Prelude.{◌≤◌, ◌<◌, length};
-ghost use Rattle.encoding.specs.ClassTable.{ClassTable};
-ghost use Rattle.json_text.specs.Verdict.{max_bytes, max_depth};
-ghost use Rattle.leap.specs.Passing.{Kept};
-ghost use Rattle.pile.specs.Pile.{pile};
+ghost use Rattle.std.specs.Prelude.{◌≡◌, ◌≤◌, ◌<◌, length};
+ghost use Rattle.json_text.specs.Verdict.{max_depth};
 ghost use Rattle.enter.specs.Passes.{PassesValue, PassesContainer};
 
 use encoding::{CLOSING, OPENING, class};
 use json_text::MAX_DEPTH;
-use leap::{KEPT, leave};
+use leap::Leaper;
 use marks::framed;
 use pairs::{begin, raise};
-use pile::{Coming, Standing, enter, is_dead, lost, pass};
+use pile::{Pile, Standing, is_dead};
 use scan::{scalar_end, skip_blanks};
+use walk::Coming;
 
 // Passes the container ahead, whose pair is begun, or enters it where it has items and is not dead. Its frame counts in either case.
 fn container(
-    classes: &[u8; 256],
-    record: &[u8],
     v: Coming,
-    wait: usize,
-    a: Standing,
+    wait: Option<usize>,
+    a: &mut Standing,
     list: &mut [u32],
-    levels: &mut [u16; MAX_DEPTH],
-    held: &mut [u16; MAX_DEPTH],
-    waits: &mut [usize; MAX_DEPTH],
-    brackets: &mut [u8; MAX_DEPTH],
-    counts: &mut [u32; MAX_DEPTH],
-    block: &mut [u64; KEPT],
-) -> Standing
-    requires class_table { ClassTable classes.now }
-    requires record_len_bound { (length «record».now ≤ max_bytes) × (v.at < length «record».now) }
-    requires depth_le_max_depth { (a.depth ≤ max_depth) × (a.frames ≤ max_depth) }
-    requires kept { Kept «record».now block.old }
-    ensures passes_container { PassesContainer «record».now
-        (pile levels.old held.old waits.old brackets.old counts.old)
-        (pile levels.new held.new waits.new brackets.new counts.new)
-        list.old list.new v wait a result }
-    ensures kept_2 { Kept «record».now block.new }
+    pile: &mut Pile,
+    leaper: &mut Leaper<'_>,
+)
+    requires at_in_bounds { v.at < length leaper.old.bytes.now }
+    requires depth_le_max_depth { (a.old.depth ≤ max_depth) × (a.old.frames ≤ max_depth) }
+    ensures passes_container { PassesContainer leaper.old.bytes.now pile.old pile.new list.old list.new v wait a.old a.new }
+    ensures same_record { leaper.new.bytes.now ≡ leaper.old.bytes.now }
 {
+    let record = leaper.bytes;
     let at = v.at;
-    let marks = v.marks;
-    let around = a.frames;
     if a.depth >= MAX_DEPTH {
-        return lost(a, at);
+        a.lose(at);
+        return;
     }
-    if around >= MAX_DEPTH {
-        return lost(a, at);
+    if a.frames >= MAX_DEPTH {
+        a.lose(at);
+        return;
     }
-    let frames = framed(a.marks, marks, around);
-    let peak = raise(a.peak, frames, a.stop);
-    let b = Standing {
-        at: a.at,
-        item: a.item,
-        depth: a.depth,
-        frames: around,
-        marks: a.marks,
-        used: a.used,
-        peak,
-        stop: a.stop,
-    };
-    if is_dead(marks, a.stop) {
-        let end = leave(record, at + 1, block);
-        return pass(list, wait, end, b);
+    let frames = framed(a.marks, v.marks, a.frames);
+    raise(&mut a.counts, frames);
+    if is_dead(v.marks, a.counts.stop) {
+        let end = leaper.leave(at + 1);
+        a.pass(list, wait, end);
+        return;
     }
     let first = skip_blanks(record, at + 1);
     if first >= record.len() {
-        return lost(a, at);
+        a.lose(at);
+        return;
     }
-    if class(classes, record[first]) == CLOSING {
-        return pass(list, wait, first + 1, b);
+    if class(record[first]) == CLOSING {
+        a.pass(list, wait, first + 1);
+        return;
     }
-    let bracket = record[at];
-    enter(
-        bracket, first, v, wait, frames, b, levels, held, waits, brackets, counts,
-    )
+    a.enter(pile, record[at], first, v, wait, frames);
 }
 
 // Passes the value ahead, or enters it where it is a container that has items and is not dead.
 pub fn value(
-    classes: &[u8; 256],
-    record: &[u8],
     v: Coming,
-    a: Standing,
+    a: &mut Standing,
     list: &mut [u32],
-    levels: &mut [u16; MAX_DEPTH],
-    held: &mut [u16; MAX_DEPTH],
-    waits: &mut [usize; MAX_DEPTH],
-    brackets: &mut [u8; MAX_DEPTH],
-    counts: &mut [u32; MAX_DEPTH],
-    block: &mut [u64; KEPT],
-) -> Standing
-    requires class_table { ClassTable classes.now }
-    requires record_len_bound { (length «record».now ≤ max_bytes) × (v.at ≤ length «record».now) }
-    requires depth_le_max_depth { (a.depth ≤ max_depth) × (a.frames ≤ max_depth) }
-    requires kept { Kept «record».now block.old }
-    ensures passes_value { PassesValue «record».now
-        (pile levels.old held.old waits.old brackets.old counts.old)
-        (pile levels.new held.new waits.new brackets.new counts.new)
-        list.old list.new v a result }
-    ensures kept_2 { Kept «record».now block.new }
+    pile: &mut Pile,
+    leaper: &mut Leaper<'_>,
+)
+    requires at_in_bounds { v.at ≤ length leaper.old.bytes.now }
+    requires depth_le_max_depth { (a.old.depth ≤ max_depth) × (a.old.frames ≤ max_depth) }
+    ensures passes_value { PassesValue leaper.old.bytes.now pile.old pile.new list.old list.new v a.old a.new }
+    ensures same_record { leaper.new.bytes.now ≡ leaper.old.bytes.now }
 {
+    let record = leaper.bytes;
     let at = v.at;
     if at >= record.len() {
-        return lost(a, at);
+        a.lose(at);
+        return;
     }
-    let begun = begin(list, v.picked, a.used, a.stop, at);
-    let wait = begun.wait;
-    let b = Standing {
-        at: a.at,
-        item: a.item,
-        depth: a.depth,
-        frames: a.frames,
-        marks: a.marks,
-        used: begun.used,
-        peak: a.peak,
-        stop: begun.stop,
-    };
-    if class(classes, record[at]) != OPENING {
-        let end = scalar_end(classes, record, at);
-        return pass(list, wait, end, b);
+    let wait = begin(list, v.picked, &mut a.counts, at);
+    if class(record[at]) != OPENING {
+        let end = scalar_end(record, at);
+        a.pass(list, wait, end);
+        return;
     }
-    container(
-        classes, record, v, wait, b, list, levels, held, waits, brackets, counts, block,
-    )
+    container(v, wait, a, list, pile, leaper);
 }

@@ -1,10 +1,12 @@
 // The escapes of a name: how many bytes each has, the code point that it stands for, and that in UTF-8.
 #![tactic(auto)]
 
-ghost use Rattle.std.specs.Prelude.{◌≡◌, ◌+◌, ◌-◌, ◌≤◌, ◌<◌, ◌%◌, length, get_or};
-ghost use Rattle.std.proofs.Math.Seq.{slice};
-ghost use Rattle.encoding.specs.Unescape.{hex_value, short_point_of, unit_at, low_at_of};
-ghost use Rattle.escapes.specs.Escapes.{EscapeAt, InUtf8};
+ghost use Rattle.std.specs.Prelude.{◌≡◌, [], ◌+◌, ◌<◌, ◌%◌, length, get_or};
+ghost use Rattle.encoding.specs.Points.{utf8};
+ghost use Rattle.encoding.specs.Unescape.{hex_value, short_point_of, unit_at};
+ghost use Rattle.escapes.specs.Escapes.{EscapeAt, LowHalf, PairBehind};
+
+use std::marker::Model;
 
 // The byte that an escape begins with.
 pub const BACKSLASH: u8 = 0x5C;
@@ -16,6 +18,11 @@ const UPPER: u8 = 0x37;
 
 const LOWER: u8 = 0x57;
 
+// How many bytes an escape by a letter has, and one by four digits. A surrogate pair is two by digits.
+const LETTER_SIZE: usize = 2;
+
+const DIGITS_SIZE: usize = 6;
+
 // Half of a surrogate pair holds ten bits of a code point. The bits above them are those of a high half, or those of a low one.
 const TEN_BITS: u32 = 0x400;
 
@@ -26,47 +33,65 @@ const LOW: u32 = 0x37;
 // The least code point that is written as a pair.
 const PAIRED: u32 = 0x10000;
 
-// The byte `k` places after `at`, or 0 from `end` on.
-fn byte_at(s: &[u8], at: usize, end: usize, k: usize) -> u8
-    requires { (end ≤ length s.now) × (at ≤ end + 6) × (k < 6) }
-    ensures { result ≡ get_or (slice at end s.now) k 0 }
-{
-    let i = at + k;
-    if i < end {
-        return s[i];
-    }
-    0
+// What an escape stands for, and how many bytes it has.
+#[derive(Drop)]
+pub struct Escape {
+    pub point: u32,
+    pub size: usize,
 }
 
-// How far `b` is above `low`, or 0 where it is not.
-fn above(b: u8, low: u8) -> u32
-    ensures { result ≡ b - low }
+// In each function below, an escape that the bytes break off goes on with zeros.
+
+// What a hexadecimal digit stands for, and some number below 16 for any other byte.
+#[tactic(auto, unfolding(encoding::specs::Unescape::hex_value))]
+fn hex_value(b: u8) -> u32
+    ensures { (result ≡ hex_value b) × (result < 16) }
 {
-    if b < low {
-        return 0;
+    match b {
+        ..=b'9' => b.saturating_sub(b'0') as u32,
+        ..=b'F' => b.saturating_sub(UPPER) as u32,
+        ..=b'f' => b.saturating_sub(LOWER) as u32,
+        _ => 0,
     }
-    (b - low) as u32
 }
 
-// What the hexadecimal digit `k` places after `at` stands for.
-fn digit_at(s: &[u8], at: usize, end: usize, k: usize) -> u32
-    requires { (end ≤ length s.now) × (at ≤ end + 6) × (k < 6) }
-    ensures { (result ≡ hex_value (get_or (slice at end s.now) k 0)) × (result < 16) }
+// What the digit at `k` stands for.
+#[tactic(auto, unfolding(encoding::specs::Unescape::hex_value))]
+fn digit_at(written: &[u8], k: usize) -> u32
+    ensures { (result ≡ hex_value (get_or written.now k 0)) × (result < 16) }
 {
-    let b = byte_at(s, at, end, k);
-    if b <= b'9' {
-        return above(b, b'0');
+    match written.get(k) {
+        Some(&b) => hex_value(b),
+        None => 0,
     }
-    if b <= b'F' {
-        return above(b, UPPER);
+}
+
+// The number of the four digits after a backslash and a `u`.
+#[tactic(auto, unfolding(encoding::specs::Unescape::unit_at))]
+fn unit_at(written: &[u8]) -> u32
+    ensures { result ≡ unit_at written.now }
+{
+    let x = digit_at(written, 2);
+    let y = digit_at(written, 3);
+    let z = digit_at(written, 4);
+    let w = digit_at(written, 5);
+    x * 4096 + y * 256 + z * 16 + w
+}
+
+// The low half of a surrogate pair that an escape at the start stands for.
+#[tactic(auto, using(crate::proofs::Escapes::low_none, crate::proofs::Escapes::low_some))]
+fn low_half(written: &[u8]) -> Option<u32>
+    ensures { LowHalf written.now result }
+{
+    if !written.starts_with(b"\\u") {
+        return None;
     }
-    if b <= b'f' {
-        return above(b, LOWER);
-    }
-    0
+    let unit = unit_at(written);
+    (unit / TEN_BITS == LOW).then_some(unit)
 }
 
 // What a backslash and `b` stand for, where `b` is no `u`.
+#[tactic(auto, unfolding(encoding::specs::Unescape::short_point_of))]
 fn short_point(b: u8) -> u8
     ensures { result ≡ short_point_of b }
 {
@@ -80,79 +105,75 @@ fn short_point(b: u8) -> u8
     }
 }
 
-// The number of the four digits after the backslash at `at` and its `u`.
-fn unit_at(s: &[u8], at: usize, end: usize) -> u32
-    requires { (end ≤ length s.now) × (at ≤ end + 6) }
-    ensures { result ≡ unit_at (slice at end s.now) }
+// The low half right behind, where the number of the digits is a high half.
+fn low_behind(written: &[u8], unit: u32) -> Option<u32>
+    requires { unit ≡ unit_at written.now }
+    ensures { PairBehind written.now result }
 {
-    let x = digit_at(s, at, end, 2);
-    let y = digit_at(s, at, end, 3);
-    let z = digit_at(s, at, end, 4);
-    let w = digit_at(s, at, end, 5);
-    x * 4096 + y * 256 + z * 16 + w
-}
-
-// Whether a backslash, a `u` and a low half stand at `at`.
-fn low_at(s: &[u8], at: usize, end: usize) -> bool
-    requires { (end ≤ length s.now) × (at ≤ end + 6) }
-    ensures { result ≡ low_at_of (slice at end s.now) }
-{
-    if byte_at(s, at, end, 0) != BACKSLASH {
-        return false;
-    }
-    if byte_at(s, at, end, 1) != SMALL_U {
-        return false;
-    }
-    unit_at(s, at, end) / TEN_BITS == LOW
-}
-
-// What an escape stands for, and how many bytes it has.
-#[derive(Drop)]
-pub struct Escape {
-    pub point: u32,
-    pub size: usize,
-}
-
-// The escape that begins with a backslash at `at`, in bytes that go up to `end`.
-pub fn escape_at(s: &[u8], at: usize, end: usize) -> Escape
-    requires { (end ≤ length s.now) × (at < end) }
-    ensures { EscapeAt (slice at end s.now) result.point result.size }
-{
-    let b = byte_at(s, at, end, 1);
-    if b != SMALL_U {
-        return Escape {
-            point: short_point(b) as u32,
-            size: 2,
-        };
-    }
-    let unit = unit_at(s, at, end);
     if unit / TEN_BITS != HIGH {
+        return None;
+    }
+    low_half(written.get(DIGITS_SIZE..)?)
+}
+
+// The escape that the bytes begin with.
+pub fn escape_at(written: &[u8]) -> Escape
+    ensures { EscapeAt written.now result.point result.size }
+{
+    let Some(&letter) = written.get(1) else {
         return Escape {
-            point: unit,
-            size: 6,
+            point: 0,
+            size: LETTER_SIZE,
+        };
+    };
+    if letter != SMALL_U {
+        return Escape {
+            point: short_point(letter) as u32,
+            size: LETTER_SIZE,
         };
     }
-    if !low_at(s, at + 6, end) {
-        return Escape {
+    let unit = unit_at(written);
+    match low_behind(written, unit) {
+        Some(low) => Escape {
+            point: PAIRED + unit % TEN_BITS * TEN_BITS + low % TEN_BITS,
+            size: 2 * DIGITS_SIZE,
+        },
+        None => Escape {
             point: unit,
-            size: 6,
-        };
-    }
-    let low = unit_at(s, at + 6, end);
-    Escape {
-        point: PAIRED + unit % TEN_BITS * TEN_BITS + low % TEN_BITS,
-        size: 12,
+            size: DIGITS_SIZE,
+        },
     }
 }
 
-// A code point in UTF-8: how many bytes it has, and the bytes.
+// A code point in UTF-8: the first so many of four bytes.
 #[derive(Drop)]
 pub struct Utf8 {
-    pub size: usize,
-    pub first: u8,
-    pub second: u8,
-    pub third: u8,
-    pub fourth: u8,
+    bytes: [u8; 4],
+    size: usize,
+}
+
+impl Model for Utf8 {
+    ghost use Rattle.std.specs.Prelude.{List, ℕ, ◌≤◌, take};
+
+    ghost Value = { List ℕ };
+
+    ghost view = { λ u. take u.size u.bytes };
+
+    ghost invariant = { λ u. u.size ≤ 4 };
+}
+
+impl Utf8 {
+    pub fn as_bytes(&self) -> &[u8]
+        ensures { result.now ≡ self.now }
+    {
+        &self.bytes[..self.size]
+    }
+
+    pub fn len(&self) -> usize
+        ensures { result ≡ length self.now }
+    {
+        self.size
+    }
 }
 
 // A byte after the first, with the last six of these bits.
@@ -163,42 +184,41 @@ fn tail(bits: u32) -> u8
 }
 
 // A code point in UTF-8.
+#[tactic(auto, unfolding(encoding::specs::Points::utf8))]
 pub fn in_utf8(point: u32) -> Utf8
     requires { point < 0x110000 }
-    ensures { InUtf8 point result.size result.first result.second result.third result.fourth }
+    ensures { result ≡ utf8 point [] }
 {
     if point < 0x80 {
         return Utf8 {
+            bytes: [point as u8, 0, 0, 0],
             size: 1,
-            first: point as u8,
-            second: 0,
-            third: 0,
-            fourth: 0,
         };
     }
     if point < 0x800 {
         return Utf8 {
+            bytes: [(0xC0 + point / 64) as u8, tail(point), 0, 0],
             size: 2,
-            first: (0xC0 + point / 64) as u8,
-            second: tail(point),
-            third: 0,
-            fourth: 0,
         };
     }
     if point < 0x10000 {
         return Utf8 {
+            bytes: [
+                (0xE0 + point / 4096) as u8,
+                tail(point / 64),
+                tail(point),
+                0,
+            ],
             size: 3,
-            first: (0xE0 + point / 4096) as u8,
-            second: tail(point / 64),
-            third: tail(point),
-            fourth: 0,
         };
     }
     Utf8 {
+        bytes: [
+            (0xF0 + point / 262144) as u8,
+            tail(point / 4096),
+            tail(point / 64),
+            tail(point),
+        ],
         size: 4,
-        first: (0xF0 + point / 262144) as u8,
-        second: tail(point / 4096),
-        third: tail(point / 64),
-        fourth: tail(point),
     }
 }

@@ -1,4 +1,5 @@
 -- The walk from the root: what is ahead at first, what each turn keeps, and what has come of it when the root is passed. Assumes nothing.
+use Rattle.std.specs.Prelude.{None}
 use mathlib.Core.Path.{◌≡◌, refl, sym, ap, ◌∙◌}
 use mathlib.Core.List.{List, []}
 use mathlib.Core.Bool.{Bool, true, false, true≢false}
@@ -25,7 +26,8 @@ use Rattle.automaton.specs.Start.{start_none, start_some}
 use Rattle.automaton.specs.State.{State, next, start}
 use Rattle.automaton.specs.Tally.{Tally, tallied, fresh}
 use Rattle.walk.specs.Walks.{Walks}
-use Rattle.pile.specs.Pile.{Pile, Sized, ValuePassed, root, item, ValueDue}
+use Rattle.pile.specs.declared.Pile.{Pile}
+use Rattle.pile.specs.Pile.{Sized, ValuePassed, root, item, ValueDue}
 use Rattle.pile.specs.Due.{tally_at, Due, Onward}
 use Rattle.pile.specs.declared.Standing.{Standing}
 use Rattle.jumping.specs.Turns.{RootMarks, BeforeRoot, turns_left, Turns}
@@ -74,7 +76,7 @@ root_due {x} {s} t {i} {m} z list h b e f n =
     }
 
 pub starts : {s : List ℕ} {n i m : ℕ} → EndsBlanks s 0 i → RootMarks n m
-    → BeforeRoot s n (record { at = i; item = true; depth = 0; frames = 0; marks = m; used = 0; peak = 0; stop = 0 })
+    → BeforeRoot s n (record { at = i; depth = 0; frames = 0; counts = record { used = 0; peak = 0; stop = None }; marks = m; item = true })
 unfolding fresh
 starts b r =
     record {
@@ -166,7 +168,7 @@ module _ {names : List ℕ} {kinds : Kinds} {ops s : List ℕ} {z₀ z z' : Pile
       }
 
   -- the root has been passed
-  pub walk_ends : BeforeRoot s kinds.count a₀ → Sized z₀ → r.depth ≡ 0 → Walks names kinds ops s list₀ list' r.used r.peak r.stop
+  pub walk_ends : BeforeRoot s kinds.count a₀ → Sized z₀ → r.depth ≡ 0 → Walks names kinds ops s list₀ list' r.counts
   walk_ends y h e =
       record {
         counts = λ x held t f n.

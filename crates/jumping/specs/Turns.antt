@@ -9,10 +9,11 @@ use Rattle.select.specs.Nodes.{root}
 use Rattle.select.specs.Visits.{node_visits}
 use Rattle.automaton.specs.State.{next, start}
 use Rattle.automaton.specs.Tally.{Tally, tallied, fresh}
-use Rattle.pile.specs.Pile.{Pile, pile, Sized, ValuePassed, ValueDue}
+use Rattle.pile.specs.declared.Pile.{Pile}
+use Rattle.pile.specs.Pile.{Sized, ValuePassed, ValueDue}
 use Rattle.pile.specs.Due.{tally_at, Due, Onward}
 use Rattle.pile.specs.declared.Standing.{Standing}
-use Rattle.pile.specs.declared.Coming.{Coming}
+use Rattle.walk.specs.declared.Coming.{Coming}
 
 pub record RootMarks (count marks : ℕ) : Type 0 where
   pub are : (x : List Step) → count ≡ length x → marks ≡ (start x).marks
@@ -27,20 +28,18 @@ pub record BeforeRoot (s : List ℕ) (count : ℕ) (r : Standing) : Type 0 where
       → Due x s (tallied (fresh list) (node_visits (next x) (root t) (start x))) z list r
 
 -- the first byte of the value ahead, its marks, and whether it is picked out
-pub record Comes (names : List ℕ) (kinds : Kinds) (operands s brackets counts : List ℕ) (a : Standing) (r : Coming) : Type 0 where
+pub record Comes (names : List ℕ) (kinds : Kinds) (operands s : List ℕ) (z : Pile) (a : Standing) (r : Coming) : Type 0 where
   pub onward : a.at ≤ r.at
   pub within : r.at ≤ length s
-  pub due : (x : List Step) → Holds names x kinds operands → (whole : Tally) (levels held waits list : List ℕ)
-      → Due x s whole (pile levels held waits brackets counts) list a
-      → ValueDue x s whole (pile levels held waits brackets counts) r.at (tally_at list a) r.marks r.picked a.depth a.frames a.marks
+  pub due : (x : List Step) → Holds names x kinds operands → (whole : Tally) (list : List ℕ) → Due x s whole z list a
+      → ValueDue x s whole z r.at (tally_at list a) r.marks r.picked a.depth a.frames a.marks
 
 -- past a comma, with which the innermost container has one item more, or past its closing bracket
-pub record GoesOn (s : List ℕ) (levels held waits counts counts' list list' : List ℕ) (a r : Standing) : Type 0 where
+pub record GoesOn (s : List ℕ) (z z' : Pile) (list list' : List ℕ) (a r : Standing) : Type 0 where
   pub onward : Onward (length s) a.at r
   pub farther : a.at < r.at
-  pub keeps : (x : List Step) (whole : Tally) (brackets : List ℕ)
-      → ValuePassed x s whole (pile levels held waits brackets counts) a.at (tally_at list a) a.depth a.frames a.marks
-      → Due x s whole (pile levels held waits brackets counts') list' r
+  pub keeps : (x : List Step) (whole : Tally) → ValuePassed x s whole z a.at (tally_at list a) a.depth a.frames a.marks
+      → Due x s whole z' list' r
 
 -- how many turns there may still be, in a record of n bytes
 abbrev pub turns_left : (n i : ℕ) → (item : Bool) → ℕ

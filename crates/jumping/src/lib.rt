@@ -2,24 +2,21 @@
 #![tactic(auto)]
 
 ghost use Rattle.std.specs.Prelude.{◌≡◌, true, false, ◌≤◌, length};
-ghost use Rattle.encoding.specs.ClassTable.{ClassTable};
 ghost use Rattle.json_text.specs.Verdict.{max_bytes, max_depth};
-ghost use Rattle.leap.specs.Passing.{Kept};
 ghost use Rattle.query_parser.specs.Holds.{Fits};
 ghost use Rattle.walk.specs.Walks.{Walks};
-ghost use Rattle.pile.specs.Pile.{pile};
 ghost use Rattle.jumping.specs.Turns.{RootMarks, BeforeRoot, Comes, GoesOn, Turns};
 
-use encoding::classes;
 use enter::value;
 use json_text::MAX_DEPTH;
-use leap::{KEPT, none_kept};
-use marks::{advance, taking_element, taking_escaped, taking_member};
+use leap::Leaper;
+use marks::Query;
 use names::Names;
 use pairs::Counts;
-use pile::{Coming, Standing, count_item, lost, pass, pop_frame};
-use query_parser::{Compiled, Kinds};
-use scan::{enter_item, skip_blanks};
+use pile::{NO_CONTAINER, NO_FRAME, Pile, Standing};
+use query_parser::Compiled;
+use scan::skip_blanks;
+use walk::{Coming, enter_child};
 
 // The opening bracket of an object, and the byte between two items.
 const OBJECT: u8 = b'{';
@@ -42,165 +39,90 @@ fn start(record: &[u8], count: usize) -> Standing
 {
     let at = skip_blanks(record, 0);
     let marks = root_marks(count);
-    Standing {
-        at,
-        item: true,
-        depth: 0,
-        frames: 0,
-        marks,
+    let counts = Counts {
         used: 0,
         peak: 0,
-        stop: 0,
+        stop: None,
+    };
+    Standing {
+        at,
+        depth: 0,
+        frames: 0,
+        counts,
+        marks,
+        item: true,
     }
-}
-
-fn wide(x: u32) -> usize
-    ensures { result ≡ x }
-{
-    x as usize
 }
 
 // The value ahead: the root, or that of the next item of the innermost container, with the marks that its label leads to.
-fn coming(
-    names: &Names,
-    kinds: Kinds,
-    operands: &[u64; 16],
-    record: &[u8],
-    a: Standing,
-    brackets: &[u8; MAX_DEPTH],
-    counts: &[u32; MAX_DEPTH],
-) -> Coming
-    requires fits { Fits kinds operands.now }
-    requires at_in_bounds { a.at ≤ length «record».now }
-    requires item_value { (a.item ≡ true) × (a.depth ≤ max_depth) }
-    ensures { Comes names.now kinds operands.now «record».now brackets.now
-        counts.now a result }
+fn coming(query: &Query<'_>, record: &[u8], a: &Standing, pile: &Pile) -> Coming
+    requires at_in_bounds { a.now.at ≤ length «record».now }
+    requires item_value { (a.now.item ≡ true) × (a.now.depth ≤ max_depth) }
+    ensures { Comes query.now.names.now query.now.kinds query.now.operands «record».now pile.now a.now result }
 {
-    let at = a.at;
-    let marks = a.marks;
     if a.depth == 0 {
         return Coming {
-            at,
-            marks,
-            picked: kinds.count == 0,
+            at: a.at,
+            marks: a.marks,
+            picked: query.kinds.count == 0,
         };
     }
     let top = a.depth - 1;
-    let object = brackets[top] == OBJECT;
-    let item = enter_item(record, at, object);
-    let from = item.from;
-    let to = item.to;
-    let hits = if object {
-        if item.escaped {
-            taking_escaped(
-                names,
-                operands,
-                kinds.every,
-                kinds.named,
-                kinds.count,
-                marks,
-                record,
-                from,
-                to,
-            )
-        } else {
-            taking_member(names, kinds, operands, marks, record, from, to)
-        }
-    } else {
-        taking_element(kinds, operands, marks, wide(counts[top]))
-    };
-    let child = advance(kinds, marks, hits);
-    Coming {
-        at: item.value,
-        marks: child.marks,
-        picked: child.picked,
-    }
+    let around = pile.containers[top];
+    enter_child(
+        query,
+        record,
+        a.at,
+        around.bracket == OBJECT,
+        around.count as usize,
+        a.marks,
+    )
 }
 
 // Goes on after a value: past a comma to the next item, or past the closing bracket of the innermost container, which is left.
-fn past(
-    record: &[u8],
-    a: Standing,
-    list: &mut [u32],
-    levels: &[u16; MAX_DEPTH],
-    held: &[u16; MAX_DEPTH],
-    waits: &[usize; MAX_DEPTH],
-    counts: &mut [u32; MAX_DEPTH],
-) -> Standing
-    requires record_len_bound { (length «record».now ≤ max_bytes) × (a.at ≤ length «record».now) }
-    requires depth_le_max_depth { (a.depth ≤ max_depth) × (a.frames ≤ max_depth) × (a.depth ≡ 0 → ⊥) }
-    ensures { GoesOn «record».now levels.now held.now waits.now
-        counts.old counts.new list.old list.new a result }
+fn past(record: &[u8], a: &mut Standing, list: &mut [u32], pile: &mut Pile)
+    requires record_len_bound { (length «record».now ≤ max_bytes) × (a.old.at ≤ length «record».now) }
+    requires depth_le_max_depth { (a.old.depth ≤ max_depth) × (a.old.frames ≤ max_depth) × (a.old.depth ≡ 0 → ⊥) }
+    ensures { GoesOn «record».now pile.old pile.new list.old list.new a.old a.new }
 {
     let at = a.at;
     let next = skip_blanks(record, at);
     if next >= record.len() {
-        return lost(a, at);
+        a.lose(at);
+        return;
     }
     let top = a.depth - 1;
     if record[next] == COMMA {
-        count_item(counts, top);
-        let after = next + 1;
-        return Standing {
-            at: after,
-            item: true,
-            depth: a.depth,
-            frames: a.frames,
-            marks: a.marks,
-            used: a.used,
-            peak: a.peak,
-            stop: a.stop,
-        };
+        pile.count_item(top);
+        a.at = next + 1;
+        a.item = true;
+        return;
     }
-    let around = pop_frame(levels, held, a.frames, top, a.marks);
-    let b = Standing {
-        at,
-        item: false,
-        depth: top,
-        frames: around.frames,
-        marks: around.marks,
-        used: a.used,
-        peak: a.peak,
-        stop: a.stop,
-    };
-    let wait = waits[top];
-    pass(list, wait, next + 1, b)
+    a.leave(pile);
+    let left = pile.containers[top];
+    a.pass(list, left.wait, next + 1);
 }
 
 // One step: past the value ahead or into it, or on from a value that has been passed.
 fn turn(
-    classes: &[u8; 256],
-    names: &Names,
-    kinds: Kinds,
-    operands: &[u64; 16],
-    record: &[u8],
-    a: Standing,
+    query: &Query<'_>,
+    a: &mut Standing,
     list: &mut [u32],
-    levels: &mut [u16; MAX_DEPTH],
-    held: &mut [u16; MAX_DEPTH],
-    waits: &mut [usize; MAX_DEPTH],
-    brackets: &mut [u8; MAX_DEPTH],
-    counts: &mut [u32; MAX_DEPTH],
-    block: &mut [u64; KEPT],
-) -> Standing
-    requires class_table { ClassTable classes.now }
-    requires fits { Fits kinds operands.now }
-    requires record_len_bound { (length «record».now ≤ max_bytes) × (a.at ≤ length «record».now) }
-    requires depth_le_max_depth { (a.depth ≤ max_depth) × (a.frames ≤ max_depth) × (a.item ≡ false → a.depth ≡ 0 → ⊥) }
-    requires kept { Kept «record».now block.old }
-    ensures turns { Turns names.now kinds operands.now «record».now
-        (pile levels.old held.old waits.old brackets.old counts.old)
-        (pile levels.new held.new waits.new brackets.new counts.new)
-        list.old list.new a result }
-    ensures kept_2 { Kept «record».now block.new }
+    pile: &mut Pile,
+    leaper: &mut Leaper<'_>,
+)
+    requires at_in_bounds { a.old.at ≤ length leaper.old.bytes.now }
+    requires depth_le_max_depth { (a.old.depth ≤ max_depth) × (a.old.frames ≤ max_depth) × (a.old.item ≡ false → a.old.depth ≡ 0 → ⊥) }
+    ensures turns { Turns query.now.names.now query.now.kinds query.now.operands leaper.old.bytes.now pile.old pile.new list.old list.new a.old a.new }
+    ensures same_record { leaper.new.bytes.now ≡ leaper.old.bytes.now }
 {
+    let record = leaper.bytes;
     if !a.item {
-        return past(record, a, list, levels, held, waits, counts);
+        past(record, a, list, pile);
+        return;
     }
-    let v = coming(names, kinds, operands, record, a, brackets, counts);
-    value(
-        classes, record, v, a, list, levels, held, waits, brackets, counts, block,
-    )
+    let v = coming(query, record, a, pile);
+    value(v, a, list, pile, leaper);
 }
 
 // Lists the nodes of a checked record that a query picks out, and counts frames, by the jumping walk: what the list holds and the counts
@@ -208,42 +130,24 @@ fn turn(
 pub fn walk_jumping(names: &Names, steps: Compiled, record: &[u8], list: &mut [u32]) -> Counts
     requires fits { Fits steps.kinds steps.operands }
     requires record_len_bound { length «record».now ≤ max_bytes }
-    ensures { Walks names.now steps.kinds steps.operands «record».now list.old list.new
-        result.used result.peak result.stop }
+    ensures { Walks names.now steps.kinds steps.operands «record».now list.old list.new result }
 {
-    let classes = classes();
     let kinds = steps.kinds;
     let operands = steps.operands;
-    let mut levels: [u16; MAX_DEPTH] = [0; MAX_DEPTH];
-    let mut held: [u16; MAX_DEPTH] = [0; MAX_DEPTH];
-    let mut waits: [usize; MAX_DEPTH] = [0; MAX_DEPTH];
-    let mut brackets: [u8; MAX_DEPTH] = [0; MAX_DEPTH];
-    let mut counts: [u32; MAX_DEPTH] = [0; MAX_DEPTH];
-    let mut block = none_kept();
-    let mut a = start(record, kinds.count);
+    let query = Query {
+        names,
+        kinds,
+        operands,
+    };
+    let frames = [NO_FRAME; MAX_DEPTH];
+    let containers = [NO_CONTAINER; MAX_DEPTH];
+    let mut pile = Pile { frames, containers };
+    let mut leaper = Leaper::new(record);
+    let mut a = start(record, query.kinds.count);
     loop {
-        a = turn(
-            &classes,
-            names,
-            kinds,
-            &operands,
-            record,
-            a,
-            list,
-            &mut levels,
-            &mut held,
-            &mut waits,
-            &mut brackets,
-            &mut counts,
-            &mut block,
-        );
-        let depth = a.depth;
-        if depth == 0 {
-            return Counts {
-                used: a.used,
-                peak: a.peak,
-                stop: a.stop,
-            };
+        turn(&query, &mut a, list, &mut pile, &mut leaper);
+        if a.depth == 0 {
+            return a.counts;
         }
     }
 }

@@ -43,6 +43,10 @@ on_word (both o e f) x = on_words o (on_word e x) (on_word f x)
 abbrev pub high_at : ℕ → Lane
 high_at m = both minus (both xor byte (same m)) (same 0x01)
 
+-- its highest bit is on below 80
+abbrev pub flip : Lane
+flip = both minus (same 0xFF) byte
+
 -- the numbers that are the same for each byte are bytes
 abbrev pub fits : Lane → Bool
 fits byte = true
@@ -141,3 +145,7 @@ unfolding word
 lanes byte t b h = record { bytes = b; small = h; is_word = refl; alone = λ k l. refl }
 lanes (same m) t b h = record { bytes = λ k. m; small = λ k. ltb→lt m 256 t; is_word = omega arith; alone = λ k l. refl }
 lanes (both o e f) t b h = computed_both o (lanes e (and_left (fits e) (fits f) t) b h) (lanes f (and_right (fits e) (fits f) t) b h)
+
+-- a word whose bits are all the other way has the bits of each byte so
+pub flipped : (x : ℕ) → x < 2 ^ 64 → 2 ^ 64 - 1 - x ≡ on_word flip x
+flipped x h = omega arith

@@ -1,19 +1,15 @@
 // Eight bytes of a word at once: which of them are not of a kind, and the first of these.
 #![tactic(auto)]
 
-ghost use Rattle.std.specs.Prelude.{◌≡◌, ◌+◌, ◌-◌, ◌%◌, ◌^◌};
+ghost use Rattle.std.specs.Prelude.{◌≡◌, ℕ, Bool, ◌+◌, ◌-◌, ◌*◌, ◌%◌, ◌^◌};
+ghost use Rattle.lanes.specs.Lanes.{byte, same, both, minus, on_word, high_at};
 ghost use Rattle.lanes.specs.Kinds.{plain, unquoted, bare, inner, digit, gap, space_byte};
 ghost use Rattle.lanes.specs.Stops.{Stops, FirstByte};
 
-// Eight spaces.
-const SPACES: u64 = 0x2020202020202020;
-
-// The number 1 in each of eight bytes, the highest bit of each, and all bits.
+// The number 1 in each of eight bytes, and the highest bit of each.
 const EACH: u64 = 0x0101010101010101;
 
 const HIGHEST: u64 = 0x8080808080808080;
-
-const ALL: u64 = 0xffffffffffffffff;
 
 // `x` less `m`, wrapped.
 fn minus(x: u64, m: u64) -> u64
@@ -22,62 +18,120 @@ fn minus(x: u64, m: u64) -> u64
     std::num::wrapping_sub_u64(x, m)
 }
 
-// Of eight bytes, those before the first quote come back as 0, and that one not.
-pub fn unquoted_stops(x: u64) -> u64
-    ensures { Stops unquoted x result }
+// The word of eight bytes `b`.
+fn each(b: u8) -> u64
+    ensures { result ≡ b * 0x0101010101010101 }
 {
-    minus(x ^ 0x2222222222222222, EACH) & (x ^ ALL) & HIGHEST
+    b as u64 * EACH
 }
 
-// Of eight bytes, those before the first quote or backslash come back as 0, and that one not.
-pub fn bare_stops(x: u64) -> u64
-    ensures { Stops bare x result }
+// Of eight bytes below 80, the first that is `b` has its highest bit on, and none before it.
+fn equal(x: u64, b: u8) -> u64
+    ensures { result ≡ on_word (high_at b) x }
 {
-    let quote = minus(x ^ 0x2222222222222222, EACH);
-    let backslash = minus(x ^ 0x5c5c5c5c5c5c5c5c, EACH);
-    (quote | backslash) & (x ^ ALL) & HIGHEST
+    minus(x ^ each(b), EACH)
 }
 
-// Of eight bytes, those before the first that is not plain in a string come back as 0, and that one not.
-pub fn plain_stops(x: u64) -> u64
-    ensures { Stops plain x result }
+// Of eight bytes below 80, the first below `b` has its highest bit on, and none before it.
+fn below(x: u64, b: u8) -> u64
+    ensures { result ≡ on_word (both minus byte (same b)) x }
 {
-    let quote = minus(x ^ 0x2222222222222222, EACH);
-    let backslash = minus(x ^ 0x5c5c5c5c5c5c5c5c, EACH);
-    let control = minus(x, 0x2020202020202020);
-    (quote | backslash | control | x) & HIGHEST
+    minus(x, each(b))
 }
 
-// Of eight bytes, those before the first below 2D or closing bracket come back as 0, and that one not.
-pub fn inner_stops(x: u64) -> u64
-    ensures { Stops inner x result }
+// Of eight bytes below 80, the first above `b` has its highest bit on, and none before it.
+fn above(x: u64, b: u8) -> u64
+    ensures { result ≡ on_word (both minus (same b) byte) x }
 {
-    let below = minus(x, 0x2d2d2d2d2d2d2d2d);
-    let bracket = minus((x | 0x2020202020202020) ^ 0x7d7d7d7d7d7d7d7d, EACH);
-    (below | bracket) & (x ^ ALL) & HIGHEST
+    minus(each(b), x)
 }
 
-// Of eight bytes, those before the first that is no digit come back as 0, and that one not.
-pub fn digit_stops(x: u64) -> u64
-    ensures { Stops digit x result }
-{
-    let below = minus(x, 0x3030303030303030);
-    let above = minus(0x3939393939393939, x);
-    (below | above) & HIGHEST
+// A kind of bytes, of which eight are told at once. A byte from 80 on has its highest bit itself: `| x` tells it, and `& !x` does not.
+pub trait Kind {
+    // Whether a byte is of the kind.
+    ghost kind: { ℕ → Bool };
+
+    // Of eight bytes, those before the first that is not of the kind come back as 0, and that one not.
+    fn stops(x: u64) -> u64
+        ensures { Stops kind x result };
 }
 
-// Of eight bytes, those before the first above the space come back as 0, and that one not.
-pub fn gap_stops(x: u64) -> u64
-    ensures { Stops gap x result }
-{
-    (minus(SPACES, x) | x) & HIGHEST
+// A byte that is no quote.
+pub struct Unquoted;
+
+impl Kind for Unquoted {
+    ghost kind = { unquoted };
+
+    fn stops(x: u64) -> u64 {
+        equal(x, b'"') & !x & HIGHEST
+    }
 }
 
-// Of eight bytes, those before the first that is no space come back as 0, and that one not.
-pub fn space_stops(x: u64) -> u64
-    ensures { Stops space_byte x result }
-{
-    x ^ SPACES
+// A byte that is neither a quote nor a backslash.
+pub struct Bare;
+
+impl Kind for Bare {
+    ghost kind = { bare };
+
+    fn stops(x: u64) -> u64 {
+        (equal(x, b'"') | equal(x, b'\\')) & !x & HIGHEST
+    }
+}
+
+// A byte that stands for itself in a string.
+pub struct Plain;
+
+impl Kind for Plain {
+    ghost kind = { plain };
+
+    fn stops(x: u64) -> u64 {
+        (equal(x, b'"') | equal(x, b'\\') | below(x, 0x20) | x) & HIGHEST
+    }
+}
+
+// A byte from 2D on that is no closing bracket.
+pub struct Inner;
+
+impl Kind for Inner {
+    ghost kind = { inner };
+
+    fn stops(x: u64) -> u64 {
+        // with 20 on, `]` is `}` too
+        (below(x, 0x2D) | equal(x | each(0x20), b'}')) & !x & HIGHEST
+    }
+}
+
+// A digit.
+pub struct Digit;
+
+impl Kind for Digit {
+    ghost kind = { digit };
+
+    fn stops(x: u64) -> u64 {
+        (below(x, b'0') | above(x, b'9')) & HIGHEST
+    }
+}
+
+// A byte up to the space.
+pub struct Gap;
+
+impl Kind for Gap {
+    ghost kind = { gap };
+
+    fn stops(x: u64) -> u64 {
+        (above(x, b' ') | x) & HIGHEST
+    }
+}
+
+// The space.
+pub struct Space;
+
+impl Kind for Space {
+    ghost kind = { space_byte };
+
+    fn stops(x: u64) -> u64 {
+        x ^ each(b' ')
+    }
 }
 
 // How many bytes of `w` before its first that is not 0; 8 where there is none.
@@ -89,5 +143,5 @@ pub fn zero_bytes(w: u64) -> usize
 
 // Whether a point is among eight bytes. Nothing rests on the answer but how fast a number is read.
 pub fn has_point(x: u64) -> bool {
-    minus(x ^ 0x2e2e2e2e2e2e2e2e, EACH) & (x ^ ALL) & HIGHEST != 0
+    equal(x, b'.') & !x & HIGHEST != 0
 }

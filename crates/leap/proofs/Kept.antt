@@ -3,13 +3,15 @@
 use mathlib.Core.Path.{◌≡◌, refl, sym, ap, subst, ◌∙◌}
 use mathlib.Core.Bool.{Bool, true, false, not, ◌&&◌, ◌||◌, false≢true, and-eq-true_iff}
 use mathlib.Core.List.{List}
-use mathlib.Core.Logic.{⊎_elim}
+use mathlib.Core.Logic.{⊎_elim, ∥∥₁_elim}
+use Rattle.std.proofs.Math.Nat.{ℕ_set}
+use Rattle.std.proofs.Math.Bridge.{le_prop}
 use Prim.Native.Nat.{ℕ, suc, ◌+◌, ◌-◌, ◌/◌, ◌^◌, ◌<◌, ◌≤◌}
 use native.Mathlib.Numerals.{add-one}
 use native.Mathlib.Omega.{arith}
 use lib.Dec.{eqb}
-use lib.ListN.{length, get_or, set, drop, length-drop, length-set}
-use lib.Seq.{drop-drop, get_or-set_same, get_or-set_other}
+use lib.ListN.{drop, length-drop}
+use lib.Seq.{drop-drop}
 use borrow.Author.Tests.{eqb-true, not-true}
 use Rattle.bits.specs.Bits.{bit}
 use Rattle.bits.specs.Laws.{lt_or_ge, bit_shr}
@@ -18,12 +20,12 @@ use Rattle.classifier.specs.Classes.{byte_at, is_backslash}
 use Rattle.blocks.specs.Laws.{Carried, opening_past, closing_past, size_le}
 use Rattle.blocks.specs.Sorted.{Sorted}
 use Rattle.blocks.specs.declared.Words.{Words}
-use Rattle.brackets.specs.Closing.{FindsClosing}
+use Rattle.brackets.specs.Closing.{ClosesAt}
 use Rattle.brackets.specs.Depth.{depth_at}
 use Rattle.brackets.specs.DepthLaws.{depth_falls}
 use Rattle.leap.specs.Brackets.{depth_in, Closed}
 use Rattle.leap.specs.BracketLaws.{closed_at, closed_once}
-use Rattle.leap.specs.Passing.{KeptBlock, Kept, Near}
+use Rattle.leap.specs.Passing.{AfterClosing, KeptBlock, Kept}
 use Rattle.leap.proofs.Ways.{falls_inside, block_opens, word_depth}
 
 -- ---- just behind an opening bracket
@@ -56,7 +58,7 @@ module _ (s : List ℕ) (inside odd : Bool) (near : ℕ) (behind : Carried insid
       (λ j. bit_shr near j (opening_word inside odd s)) (λ j. bit_shr near j (closing_word inside odd s))
       1
 
-  module _ {place after : ℕ} (f : FindsClosing (opening_word inside odd s / 2 ^ near) (closing_word inside odd s / 2 ^ near) 1 place after) (small : place < 64) where
+  module _ {place : ℕ} (f : ClosesAt (opening_word inside odd s / 2 ^ near) (closing_word inside odd s / 2 ^ near) 1 place) where
     -- the bracket that was found stands in the block
     in_block : near + place < 64
     in_block = ⊎_elim
@@ -65,19 +67,19 @@ module _ (s : List ℕ) (inside odd : Bool) (near : ℕ) (behind : Carried insid
         let opening : ℕ → Bool = λ j. bit j (opening_word inside odd s / 2 ^ near) in
         let closing : ℕ → Bool = λ j. bit j (closing_word inside odd s / 2 ^ near) in
         absurd
-        (depth_falls opening closing 1 place (f.found small).0 (ap (depth_at opening closing 1) (sym (add-one place)) ∙ (f.found small).1)
+        (depth_falls opening closing 1 place f.before (ap (depth_at opening closing 1) (sym (add-one place)) ∙ f.behind)
         (bit_shr near place (opening_word inside odd s) ∙ opening_past s inside odd (near + place) (omega (arith, size_le s)))
         (bit_shr near place (closing_word inside odd s) ∙ closing_past s inside odd (near + place) (omega (arith, size_le s)))))
         (lt_or_ge (near + place) 64)
 
     depth_before : depth_in false false (drop near s) 1 place ≡ 1
-    depth_before = sym (depth_on place (omega (arith, in_block))) ∙ (f.found small).0
+    depth_before = sym (depth_on place (omega (arith, in_block))) ∙ f.before
 
     depth_behind : depth_in false false (drop near s) 1 (suc place) ≡ 0
     depth_behind =
         ap (depth_in false false (drop near s) 1) (sym (add-one place))
         ∙ sym (depth_on (place + 1) (omega (arith, in_block)))
-        ∙ (f.found small).1
+        ∙ f.behind
 
     pub closes_there : Closed false false (drop near s) 1 (suc place)
     closes_there =
@@ -85,39 +87,10 @@ module _ (s : List ℕ) (inside odd : Bool) (near : ℕ) (behind : Carried insid
 
 -- ---- what is kept
 
-pub nothing_kept : {kept : List ℕ} (s : List ℕ) → length kept ≡ 3 → get_or kept 0 0 ≡ 0 → Kept s kept
-nothing_kept s l z = record { sized = l; block = λ some. absurd (some z) }
-
--- a block that was sorted, with its end
-pub block_kept : (s kept : List ℕ) (i : ℕ) {inside odd : Bool} {w : Words} → Sorted (drop i s) inside odd w → Kept s kept
-    → Kept s (set (set (set kept 0 (i + 64)) 1 w.opening) 2 w.closing)
-block_kept s kept i {inside} {odd} {w} sorted k =
-    let one : List ℕ = set kept 0 (i + 64) in
-    let two : List ℕ = set one 1 w.opening in
-    let first : length one ≡ 3 = length-set kept 0 (i + 64) ∙ k.sized in
-    let second : length two ≡ 3 = length-set one 1 w.opening ∙ first in
-    record {
-      sized = length-set two 2 w.closing ∙ second;
-      block = λ _. record {
-        start = i;
-        inside = inside;
-        odd = odd;
-        end_is =
-            get_or-set_other two 2 0 w.closing 0 (λ e. omega arith)
-            ∙ get_or-set_other one 1 0 w.opening 0 (λ e. omega arith)
-            ∙ get_or-set_same kept 0 (i + 64) 0 (omega (arith, k.sized));
-        opening_are =
-            get_or-set_other two 2 1 w.closing 0 (λ e. omega arith)
-            ∙ get_or-set_same one 1 w.opening 0 (omega (arith, first))
-            ∙ sorted.opening_are;
-        closing_are = get_or-set_same two 2 w.closing 0 (omega (arith, second)) ∙ sorted.closing_are;
-      };
-    }
-
 -- the block that ends at `end` and has the opening bracket just before `at`
 module _ (end opening closing at near : ℕ) (before : at < end) (in_it : end - at < 64) (near_is : near ≡ 64 - (end - at))
-    (opens : bit (near - 1) opening ≡ true) {place after : ℕ} (f : FindsClosing (opening / 2 ^ near) (closing / 2 ^ near) 1 place after) (small : place < 64) where
-  module _ {s : List ℕ} (b : KeptBlock s (end) (opening) (closing)) where
+    (opens : bit (near - 1) opening ≡ true) {place : ℕ} (f : ClosesAt (opening / 2 ^ near) (closing / 2 ^ near) 1 place) {s : List ℕ} where
+  module _ (b : KeptBlock s end opening closing) where
     place_is : b.start + near ≡ at
     place_is = omega (arith, b.end_is)
 
@@ -135,17 +108,25 @@ module _ (end opening closing at near : ℕ) (before : at < end) (in_it : end - 
     closes_here =
         subst (λ (x : List ℕ). Closed false false x 1 (suc place)) here
         (closes_there (drop b.start s) b.inside b.odd near behind
-        (subst (λ (x : ℕ). FindsClosing (x / 2 ^ near) (closing_word b.inside b.odd (drop b.start s) / 2 ^ near) 1 place after) b.opening_are
-        (subst (λ (x : ℕ). FindsClosing (opening / 2 ^ near) (x / 2 ^ near) 1 place after) b.closing_are f))
-        small)
+        (subst (λ (x : ℕ). ClosesAt (x / 2 ^ near) (closing_word b.inside b.odd (drop b.start s) / 2 ^ near) 1 place) b.opening_are
+        (subst (λ (x : ℕ). ClosesAt (opening / 2 ^ near) (x / 2 ^ near) 1 place) b.closing_are f)))
 
-  pub near_after : (kept : List ℕ) → end ≡ get_or kept 0 0 → opening ≡ get_or kept 1 0 → closing ≡ get_or kept 2 0 → Near kept at (at + place + 1)
-  near_after kept p q r = record {
-    is_after = λ s k _.
-        (let c = closes_here {s = s} (rw (p, q, r) (k.block (λ z. omega arith))) in
-        record {
-          onward = omega arith;
-          within = λ l. omega (arith, c.within, length-drop at s);
-          exact = λ e d. (let z : suc place ≡ e = closed_once c d in omega arith);
-        });
-  }
+  pub near_after : Kept s end opening closing → AfterClosing s at (at + place + 1)
+  near_after kept =
+      let block = kept (λ z. omega arith) in
+      record {
+        onward = omega arith;
+        within = λ l. ∥∥₁_elim block le_prop (λ b. let c = closes_here b in omega (arith, c.within, length-drop at s));
+        exact = λ e d. ∥∥₁_elim block (ℕ_set _ _) (λ b. let z : suc place ≡ e = closed_once (closes_here b) d in omega arith);
+      }
+
+-- a block that was sorted, with its end
+pub block_kept : {s : List ℕ} (i : ℕ) {inside odd : Bool} {w : Words} → Sorted (drop i s) inside odd w → Kept s (i + 64) w.opening w.closing
+block_kept i {inside} {odd} sorted _ = ∣ record {
+  start = i;
+  inside = inside;
+  odd = odd;
+  end_is = refl;
+  opening_are = sorted.opening_are;
+  closing_are = sorted.closing_are;
+} ∣₁

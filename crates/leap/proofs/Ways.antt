@@ -1,27 +1,23 @@
 -- On the way to the closing bracket the two facts and the depth are those of the definition, block by block; the place where the depth
 -- falls to 0 is then the only one. Assumes nothing.
 use mathlib.Core.Path.{◌≡◌, refl, sym, ap, ap₂, subst, ◌∙◌}
-use mathlib.Core.Bool.{Bool, true, false, not, ◌||◌, false≢true, and-eq-true_iff}
+use mathlib.Core.Bool.{Bool, false}
 use mathlib.Core.List.{List, []}
 use mathlib.Core.Logic.{⊎_elim}
 use Prim.Native.Nat.{ℕ, suc, ◌+◌, ◌-◌, ◌<◌, ◌≤◌}
 use native.Mathlib.Nat.{zero-add}
 use native.Mathlib.Numerals.{add-one}
 use native.Mathlib.Omega.{arith}
-use lib.Dec.{eqb}
 use lib.ListN.{length, take, drop, length-drop, get_or-eq_default}
 use lib.Seq.{drop-drop, take_all}
-use borrow.Author.Tests.{eqb-true}
 use Rattle.bits.specs.Bits.{bit}
 use Rattle.bits.specs.Laws.{lt_or_ge}
-use Rattle.blocks.specs.Words.{odd_before, odd_quotes, in_string, opens_at, closes_at, block_size, opening_word, closing_word}
+use Rattle.blocks.specs.Words.{odd_before, odd_quotes, opens_at, closes_at, block_size, opening_word, closing_word}
 use Rattle.classifier.specs.Classes.{byte_at}
 use Rattle.blocks.specs.Laws.{Carried, size_full, size_short, inside_full, odd_full, opening_bit, closing_bit, opening_past, closing_past, odd_drop, quotes_drop, opens_drop, closes_drop}
-use Rattle.blocks.specs.Counts.{counted_of, SortedCounted}
 use Rattle.blocks.specs.Sorted.{Sorted}
-use Rattle.blocks.specs.declared.Counted.{Counted}
 use Rattle.blocks.specs.declared.Words.{Words}
-use Rattle.brackets.specs.Closing.{NotBoth, FindsClosing}
+use Rattle.brackets.specs.Closing.{ClosesAt, StaysOpen}
 use Rattle.brackets.specs.Depth.{depth_at}
 use Rattle.brackets.specs.DepthLaws.{depth_none_at, depth_falls, depth_same}
 use Rattle.json_text.specs.Grammar.{put_items}
@@ -144,41 +140,10 @@ module _ (s : List ℕ) (inside odd : Bool) (near : ℕ) {x y : Bool} (facts : C
       closes j ∙ block_closes s inside odd (near + j) (omega arith) ∙ sym (closes_drop s inside odd near j)
       ∙ ap₂ (λ (u v : Bool). closes_at u v (drop near s) j) facts.quoted_is facts.escaped_is)
 
-one_kind : (b : ℕ) → (eqb b 0x5B || eqb b 0x7B) ≡ true → (eqb b 0x5D || eqb b 0x7D) ≡ true → ⊥
-one_kind b p q = go (eqb b 0x5B) refl (eqb b 0x7B) refl p
-  where
-    none : (x : ℕ) → b ≡ x → (eqb x 0x5D || eqb x 0x7D) ≡ false → ⊥
-    none x e z = false≢true (sym z ∙ ap (λ (y : ℕ). eqb y 0x5D || eqb y 0x7D) (sym e) ∙ q)
-
-    go : (x : Bool) → eqb b 0x5B ≡ x → (y : Bool) → eqb b 0x7B ≡ y → (x || y) ≡ true → ⊥
-    go true e y d h = none 0x5B (eqb-true b 0x5B e) refl
-    go false e true d h = none 0x7B (eqb-true b 0x7B d) refl
-    go false e false d h = false≢true h
-
-no_both : (s : List ℕ) (inside odd : Bool) (j : ℕ) → opens_at inside odd s j ≡ true → closes_at inside odd s j ≡ true → ⊥
-unfolding opens_at closes_at
-no_both s inside odd j p q =
-    one_kind (byte_at s j)
-    ((and-eq-true_iff (eqb (byte_at s j) 0x5B || eqb (byte_at s j) 0x7B) (not (in_string inside odd s j))).0 p).0
-    ((and-eq-true_iff (eqb (byte_at s j) 0x5D || eqb (byte_at s j) 0x7D) (not (in_string inside odd s j))).0 q).0
-
-words_apart : (s : List ℕ) (inside odd : Bool) → NotBoth (opening_word inside odd s) (closing_word inside odd s)
-words_apart s inside odd j p q = ⊎_elim
-    (λ (l : j < block_size s). no_both s inside odd j (sym (opening_bit s inside odd j l) ∙ p) (sym (closing_bit s inside odd j l) ∙ q))
-    (λ (l : block_size s ≤ j). false≢true (sym (opening_past s inside odd j l) ∙ p))
-    (lt_or_ge j (block_size s))
-
--- a block that was sorted, with its brackets counted
-pub counted_sorted : {s : List ℕ} {inside odd : Bool} {w : Words} {r : Counted} → Sorted s inside odd w → r ≡ counted_of w → SortedCounted s inside odd r
-counted_sorted h e = rw e (record { sorted = h; counted = refl })
-
 module _ {s : List ℕ} {at i : ℕ} {inside odd : Bool} {n : ℕ} (v : Tracked s at i inside odd n)
     {w : Words} (given : Sorted (take (length s - i) (drop i s)) inside odd w) where
   pub sorted : Sorted (drop i s) inside odd w
   sorted = rw (take_all (length s - i) (drop i s) (rw (length-drop i s) (omega arith))) at given
-
-  pub apart : NotBoth w.opening w.closing
-  apart = rw (sorted.opening_are, sorted.closing_are) (words_apart (drop i s) inside odd)
 
   -- the depth in the block
   depth_here : (j : ℕ) → j ≤ 64 → depth_at (λ k. bit k w.opening) (λ k. bit k w.closing) n j ≡ depth_in inside odd (drop i s) n j
@@ -188,22 +153,22 @@ module _ {s : List ℕ} {at i : ℕ} {inside odd : Bool} {n : ℕ} (v : Tracked 
       (λ k. ap₂ bit (sym (zero-add k)) sorted.opening_are) (λ k. ap₂ bit (sym (zero-add k)) sorted.closing_are)
       n j (omega arith)
 
-  module _ {place after : ℕ} (f : FindsClosing w.opening w.closing n place after) where
-    block_depth : (j : ℕ) → j ≤ 64 → depth_at (λ k. bit k w.opening) (λ k. bit k w.closing) n j ≡ depth_in false false (drop at s) 1 (i - at + j)
-    block_depth j h = depth_here j h ∙ ap (λ (x : List ℕ). depth_in inside odd x n j) (sym (here v)) ∙ stands_on v.stands j
+  block_depth : (j : ℕ) → j ≤ 64 → depth_at (λ k. bit k w.opening) (λ k. bit k w.closing) n j ≡ depth_in false false (drop at s) 1 (i - at + j)
+  block_depth j h = depth_here j h ∙ ap (λ (x : List ℕ). depth_in inside odd x n j) (sym (here v)) ∙ stands_on v.stands j
 
+  module _ {place : ℕ} (f : ClosesAt w.opening w.closing n place) where
     -- the bracket that was found stands in the record
-    in_record : place < 64 → place < length (drop i s)
-    in_record h =
+    in_record : place < length (drop i s)
+    in_record =
         falls_inside (drop i s) inside odd n place
-        (sym (depth_here place (omega arith)) ∙ (f.found h).0)
-        (ap (depth_in inside odd (drop i s) n) (sym (add-one place)) ∙ sym (depth_here (place + 1) (omega arith)) ∙ (f.found h).1)
+        (sym (depth_here place (omega (arith, f.in_block))) ∙ f.before)
+        (ap (depth_in inside odd (drop i s) n) (sym (add-one place)) ∙ sym (depth_here (place + 1) (omega (arith, f.in_block))) ∙ f.behind)
 
-    pub block_found : i < length s → place < 64 → AfterClosing s at (i + place + 1)
-    block_found in_it h =
-        let l = in_record h in
-        let x : depth_in false false (drop at s) 1 (i - at + place) ≡ 1 = sym (block_depth place (omega arith)) ∙ (f.found h).0 in
-        let y : depth_in false false (drop at s) 1 (i - at + (place + 1)) ≡ 0 = sym (block_depth (place + 1) (omega arith)) ∙ (f.found h).1 in
+    pub block_found : i < length s → AfterClosing s at (i + place + 1)
+    block_found in_it =
+        let l = in_record in
+        let x : depth_in false false (drop at s) 1 (i - at + place) ≡ 1 = sym (block_depth place (omega (arith, f.in_block))) ∙ f.before in
+        let y : depth_in false false (drop at s) 1 (i - at + (place + 1)) ≡ 0 = sym (block_depth (place + 1) (omega (arith, f.in_block))) ∙ f.behind in
         let z : i - at + (place + 1) ≡ suc (i - at + place) = omega arith in
         let c : Closed false false (drop at s) 1 (suc (i - at + place)) =
         closed_at (omega (arith, length-drop at s, length-drop i s, v.onward)) (λ e. omega arith) (ap (depth_in false false (drop at s) 1) (sym z) ∙ y) in
@@ -213,38 +178,39 @@ module _ {s : List ℕ} {at i : ℕ} {inside odd : Bool} {n : ℕ} (v : Tracked 
           exact = λ e d. (let q : suc (i - at + place) ≡ e = closed_once c d in omega (arith, v.onward));
         }
 
-    still_open : 64 ≤ place → depth_in false false (drop at s) 1 (i - at + 64) ≡ after
-    still_open h = sym (block_depth 64 (omega arith)) ∙ (f.none h).1
+  module _ {after : ℕ} (f : StaysOpen w.opening w.closing n after) where
+    still_open : depth_in false false (drop at s) 1 (i - at + 64) ≡ after
+    still_open = sym (block_depth 64 (omega arith)) ∙ f.behind
 
     -- the record ends in this block
-    pub block_last : i < length s → 64 ≤ place → length s - i < 64 → AfterClosing s at (length s)
+    pub block_last : i < length s → length s - i < 64 → AfterClosing s at (length s)
     unfolding depth_in
-    block_last in_it h l = record {
+    block_last in_it l = record {
       onward = omega (arith, v.onward);
       within = λ _. omega arith;
       exact = λ e c.
           (let x : depth_in false false (drop at s) 1 (i - at + 64) ≡ 0 =
           depth_none_at (opens_at false false (drop at s)) (closes_at false false (drop at s)) 1 e (i - at + 64)
           (omega (arith, c.within, length-drop at s, v.onward)) c.is_zero in
-          absurd (omega (arith, still_open h, (f.none h).0)));
+          absurd (omega (arith, still_open, f.some)));
     }
 
     -- on to the next block
-    pub block_next : 64 ≤ place → 64 ≤ length s - i → Tracked s at (i + 64) w.inside w.odd after
-    block_next h l =
+    pub block_next : 64 ≤ length s - i → Tracked s at (i + 64) w.inside w.odd after
+    block_next l =
         let full : 64 ≤ length (drop i s) = omega (arith, length-drop i s) in
         let z : i - at + 64 ≡ i + 64 - at = omega (arith, v.onward) in
         record {
           onward = omega (arith, v.onward);
           within = λ _. omega arith;
           few = omega (arith, v.few, f.few);
-          some = (f.none h).0;
+          some = f.some;
           stands = subst (λ (p : ℕ). Stands false false (drop at s) 1 p w.inside w.odd after) z (record {
             carried = record {
               quoted_is = sym (quotes_drop (drop at s) false false (i - at) 64) ∙ facts_inside ∙ sym (inside_full (drop i s) inside odd full) ∙ sym sorted.inside_is;
               escaped_is = sym (odd_drop (drop at s) false false (i - at) 64) ∙ facts_odd ∙ sym (odd_full (drop i s) inside odd full) ∙ sym sorted.odd_is;
             };
-            depth_is = still_open h;
+            depth_is = still_open;
           });
         }
       where

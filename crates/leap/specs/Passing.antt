@@ -1,5 +1,5 @@
 -- What the steps of the way to a closing bracket promise: from a place on, and by the words that are kept of a block.
-use Rattle.std.specs.Prelude.{◌≡◌, Bool, false, List, ℕ, ◌+◌, ◌≤◌, length, get_or, drop}
+use Rattle.std.specs.Prelude.{◌≡◌, Bool, false, List, ℕ, ◌+◌, ◌≤◌, length, drop, Option, IfSome}
 use Rattle.blocks.specs.Words.{opening_word, closing_word}
 use Rattle.leap.specs.Brackets.{Closed}
 
@@ -18,11 +18,10 @@ pub record KeptBlock (s : List ℕ) (end opening closing : ℕ) : Type 0 where
   pub opening_are : opening ≡ opening_word inside odd (drop start s)
   pub closing_are : closing ≡ closing_word inside odd (drop start s)
 
--- what is kept of s: nothing, with 0 first, or the end of a block and its words three and four
-pub record Kept (s kept : List ℕ) : Type 0 where
-  pub sized : length kept ≡ 3
-  pub block : (get_or kept 0 0 ≡ 0 → ⊥) → KeptBlock s (get_or kept 0 0) (get_or kept 1 0) (get_or kept 2 0)
+-- what is kept of s: nothing, with 0 as the end, or the end of a block and its words three and four
+abbrev pub Kept : (s : List ℕ) (end opening closing : ℕ) → Type 0
+Kept s end opening closing = (end ≡ 0 → ⊥) → ∥ KeptBlock s end opening closing ∥₁
 
--- by what is kept of some s, r is the place after the closing bracket; or 0
-pub record Near (kept : List ℕ) (at r : ℕ) : Type 0 where
-  pub is_after : (s : List ℕ) → Kept s kept → (r ≡ 0 → ⊥) → AfterClosing s at r
+-- the place after the closing bracket, where what is kept tells it
+abbrev pub Near : (s : List ℕ) (at : ℕ) → Option ℕ → Type 0
+Near s at r = IfSome r (AfterClosing s at)

@@ -1,39 +1,25 @@
 // The query and the record in the bytes of the input.
-ghost use Rattle.std.specs.Prelude.{◌≡◌, length};
-ghost use Rattle.lines.specs.Lines.{query_in_of, record_in_of};
+ghost use Rattle.std.specs.Prelude.{◌≡◌, ◌==◌};
+ghost use Rattle.std.specs.List.{position};
+ghost use Rattle.lines.specs.Lines.{feed, query_in_of, record_in_of};
 
-const FEED: u8 = b'\n';
+use crate::FEED;
 
-// The length of the query: the place of the first line feed, or the length where there is none.
-fn query_length(input: &[u8]) -> usize
-    ensures { result ≡ length (query_in_of input.now) }
+// The place of the first line feed.
+fn first_feed(input: &[u8]) -> Option<usize>
+    ensures { result ≡ position (λ b. b == feed) input.now }
 {
-    let mut i = 0;
-    while i < input.len() {
-        if input[i] == FEED {
-            return i;
-        }
-        i += 1;
-    }
-    i
+    input.iter().position(|b| *b == FEED)
 }
 
-// The query: what stands before the first line feed.
-pub fn query_in(input: &[u8]) -> &[u8]
-    ensures { result.now ≡ query_in_of input.now }
+// The query, which stands before the first line feed, and the record, which stands after it, and is nothing where there is none.
+#[tactic(auto, using(crate::specs::SplitLaws::parted))]
+pub fn parts(input: &[u8]) -> (&[u8], &[u8])
+    ensures query_part { result.0.now ≡ query_in_of input.now }
+    ensures record_part { result.1.now ≡ record_in_of input.now }
 {
-    let end = query_length(input);
-    &input[..end]
-}
-
-// The record: what stands after the first line feed, and nothing where there is none.
-pub fn record_in(input: &[u8]) -> &[u8]
-    ensures { result.now ≡ record_in_of input.now }
-{
-    let end = query_length(input);
-    if end == input.len() {
-        return &input[end..];
+    match first_feed(input) {
+        Some(end) => (&input[..end], &input[end + 1..]),
+        None => (input, &[]),
     }
-    let start = end + 1;
-    &input[start..]
 }

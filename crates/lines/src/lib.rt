@@ -4,5 +4,8 @@
 pub mod input;
 pub mod output;
 
+// The byte after a line.
+const FEED: u8 = b'\n';
+
 // The size of a buffer that holds every text.
 pub const OUTPUT_SIZE: usize = 8192;

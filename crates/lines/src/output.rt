@@ -5,12 +5,10 @@ ghost use Rattle.text.specs.Decimal.{decimal};
 ghost use Rattle.lines.specs.Lines.{max_pairs, line, pair_lines, matches, refusal, too_long, report};
 ghost use Rattle.text.specs.Put.{Room, Written, Printed};
 
-use crate::OUTPUT_SIZE;
+use crate::{FEED, OUTPUT_SIZE};
 use text::{write_field, write_word};
 
 const SPACE: u8 = b' ';
-
-const FEED: u8 = b'\n';
 
 // Writes a line of three numbers.
 fn write_line(out: &mut [u8], at: usize, number: u32, first: u32, end: u32) -> usize
@@ -29,11 +27,9 @@ fn write_pairs(out: &mut [u8], at: usize, pairs: u32, list: &[u32]) -> usize
     ensures { Written (pair_lines 0 pairs list.now) at out.old out.new result }
 {
     let mut end = at;
-    let mut i: u32 = 0;
-    while i < pairs {
+    for i in 0..pairs {
         let pair = i as usize * 2;
-        i += 1;
-        end = write_line(out, end, i, list[pair], list[pair + 1]);
+        end = write_line(out, end, i + 1, list[pair], list[pair + 1]);
     }
     end
 }

@@ -18,6 +18,7 @@ use Rattle.bits.specs.Truth.{truth}
 use Rattle.encoding.specs.Bytes.{same_numbers}
 use Rattle.encoding.specs.PointsLaws.{same_utf8}
 use Rattle.encoding.specs.Points.{Utf8Of}
+use Rattle.encoding.specs.Unescape.{unescaped}
 use Rattle.query_parser.specs.Holds.{Holds, every_at, named_at, positioned_at, name_at, position_at}
 use Rattle.query.specs.Steps as S
 use Rattle.query.specs.Steps.{Step, Selector, is_deep}
@@ -27,7 +28,9 @@ use Rattle.select.specs.Nodes.{Label, member, element}
 use Rattle.select.specs.MarksStep.{step_hits}
 use Rattle.select.specs.Ways.{hits}
 use Rattle.automaton.specs.State.{next_mark, next_marks, pick_at, next_picked}
-use Rattle.marks.specs.Advances.{is_name, name_is, position_is, Chosen, Taken, Advances}
+use Rattle.marks.specs.Advances.{is_name, name_is, position_is, IsChild, child_is, asked_of, Chosen, Taken, Advances}
+use Rattle.marks.specs.declared.Child.{Child}
+use Rattle.marks.specs.declared.Child.TheVariants.{Member, Escaped, Element}
 
 -- what takes an element, and what takes a member
 
@@ -139,6 +142,18 @@ module _ (names : List ℕ) (k : Kinds) (operands : List ℕ) (m : ℕ) where
               by_test h m k.positioned (element j) positioned_at there refl h.positioned (hits_element j) (position_is operands j) r
               (λ i on. ap (λ (w : ℕ). eqb w j) (h.position i on)) chosen;
         }
+
+  -- a child, by what it is asked for
+  pub child_every : (child : Child) → bit_and m (asked_of k child) ≡ 0 → (l : Label) → IsChild child l → Taken names k operands m l (bit_and m k.every)
+  child_every (Member name) z l (points, is, e) = rw e (member_every points z)
+  child_every (Escaped name) z l (points, spells, e) = rw e (member_every points z)
+  child_every (Element j) z l e = rw e (element_every j z)
+
+  pub child_chosen : (child : Child) (r : ℕ) → Chosen k.count (bit_and m (asked_of k child)) (child_is names operands child) r
+      → (l : Label) → IsChild child l → Taken names k operands m l (bit_or (bit_and m k.every) r)
+  child_chosen (Member name) r chosen l (points, is, e) = rw e (member_named points name.now r is chosen)
+  child_chosen (Escaped name) r chosen l (points, spells, e) = rw e (member_named points (unescaped name.now) r spells.decoded chosen)
+  child_chosen (Element j) r chosen l e = rw e (element_positioned j r chosen)
 
 -- marks of steps of one kind are among the marks of that kind
 pub live_kind : (m mask i : ℕ) → bit i (bit_and m mask) ≡ true → bit i mask ≡ true

@@ -4,11 +4,15 @@ use Rattle.std.proofs.Math.ListN.{get_elem?}
 use Rattle.std.proofs.Math.Seq.{slice}
 use Rattle.bits.specs.Bits.{bit}
 use Rattle.encoding.specs.Bytes.{same_numbers}
+use Rattle.encoding.specs.Points.{Utf8Of}
+use Rattle.encoding.specs.Unescape.{unescaped, Spells}
 use Rattle.query_parser.specs.Holds.{Holds, name_start_of, name_end_of}
 use Rattle.query.specs.Steps.{Step}
 use Rattle.query.specs.Verdict.{max_query_bytes}
 use Rattle.query_parser.specs.declared.compiled.Kinds.{Kinds}
-use Rattle.select.specs.Nodes.{Label}
+use Rattle.marks.specs.declared.Child.{Child}
+use Rattle.marks.specs.declared.Child.TheVariants.{Member, Escaped, Element}
+use Rattle.select.specs.Nodes.{Label, member, element}
 use Rattle.select.specs.MarksStep.{step_hits}
 use Rattle.automaton.specs.State.{next_marks, next_picked}
 
@@ -31,6 +35,28 @@ name_is names operands bytes i = is_name names (get_or operands i 0) bytes
 
 unfoldable pub position_is : (operands : List ℕ) → (position : ℕ) → ℕ → Bool
 position_is operands j i = eqb (get_or operands i 0) j
+
+-- the labels of a child: the code points whose UTF-8 its name's bytes are, those that they spell, or its position
+abbrev pub IsChild : Child → Label → Type 0
+IsChild (Member name) l = (points : List ℕ) × Utf8Of name.now points × (l ≡ member points)
+IsChild (Escaped name) l = (points : List ℕ) × Spells name.now points × (l ≡ member points)
+IsChild (Element j) l = l ≡ element j
+
+-- whether step i takes the child, by its name or by its position
+abbrev pub child_is : (names operands : List ℕ) → Child → ℕ → Bool
+child_is names operands (Member name) i = name_is names operands name.now i
+child_is names operands (Escaped name) i = name_is names operands (unescaped name.now) i
+child_is names operands (Element j) i = position_is operands j i
+
+-- the steps that take such a child by its name or its position
+abbrev pub asked_of : Kinds → Child → ℕ
+asked_of k (Member name) = k.named
+asked_of k (Escaped name) = k.named
+asked_of k (Element j) = k.positioned
+
+-- these marks are of such steps alone
+abbrev pub AskedOf : Kinds → Child → (marks : ℕ) → Type 0
+AskedOf k child m = (i : ℕ) → bit i m ≡ true → bit i (asked_of k child) ≡ true
 
 -- of the marks of so many steps, those of which f holds
 abbrev pub Chosen : (count marks : ℕ) → (ℕ → Bool) → ℕ → Type 0

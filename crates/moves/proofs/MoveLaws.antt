@@ -1,22 +1,28 @@
 -- Laws of the tables of moves. That the whole table leads where the machine goes is computed for every byte and every state.
-use Rattle.std.specs.Prelude.{◌≡◌, refl, List, [], ◌∷◌, ◌++◌, Bool, true, false, ◌&&◌, ◌||◌, ℕ, ◌+◌, ◌-◌, ◌*◌, ◌/◌, ◌%◌, ◌^◌, ◌≤◌, ◌<◌, T, leb, ltb, eqb, length, get_or, set, replicate}
-use Rattle.std.proofs.Common.{ap, ap₂, sym, subst, ◌∙◌, arith, leb→le, eqb→eq, length-set, get_or-set_same, get_or-set_other, leb-true, ltb-true, ltb-false, eqb-true, le-leb, lt-ltb, le-ltb, ne_eqb}
+use Rattle.std.specs.Prelude.{◌≡◌, refl, List, [], ◌∷◌, ◌++◌, Bool, true, false, ◌&&◌, ◌||◌, ℕ, ◌+◌, ◌-◌, ◌*◌, ◌/◌, ◌%◌, ◌^◌, ◌≤◌, ◌<◌, T, leb, ltb, eqb, length, get_or, set, take, map, replicate}
+use Rattle.std.proofs.Common.{ap, sym, subst, ◌∙◌, arith, leb→le, eqb→eq, length-set, get_or-set_same, get_or-set_other, eqb-true}
+use Rattle.std.proofs.Math.Logic.{∥∥₁_elim}
+use Rattle.std.proofs.Math.Nat.{ℕ_set, zero-div}
 use Rattle.std.proofs.Math.Option.{some}
+use Rattle.std.proofs.Props.{props}
+use mathlib.Core.Sum.{⊎_set}
 use Rattle.std.specs.Int.Bits.{bit_and, bit_or}
+use Rattle.std.specs.List.{flat_map, zip}
 use Rattle.std.proofs.lemmas.Nat.{and_le_r}
-use Rattle.std.proofs.lemmas.List.{get_or-replicate}
-use Rattle.std.proofs.lemmas.Bool.{eqb-false, lt-leb}
+use Rattle.std.proofs.lemmas.List.{get_or-replicate, get_or-map, take_more, flat_map_more}
+use Rattle.std.proofs.lemmas.Slice.Zip.{get_or-zip}
+use Rattle.std.proofs.lemmas.Bool.{eqb-false}
+use Rattle.std.proofs.lemmas.Bool.Decides.{nat_tests}
 use Rattle.bits.specs.Truth.{and_left, and_right, or_elim, all_below, all_at}
 use Rattle.encoding.specs.Utf8.{rows}
-use Rattle.encoding.specs.RowTable.{RowIs}
+use Rattle.encoding.specs.declared.tables.Row.{Row}
 use Rattle.encoding.specs.Utf8Steps as U
-use Rattle.encoding.specs.Utf8Steps.{row_at}
 use Rattle.json_text.specs.Room.{Room}
-use Rattle.json_text.specs.Machine.{in_string, Stack, top, at, rules}
+use Rattle.json_text.specs.Machine.{in_string, Stack, top, State, at, rules}
 use Rattle.json_text.specs.MachineLaws.{landing, step_range}
 use Rattle.json_text.specs.Led.{led_here, led_go, led_on}
 use Rattle.moves.specs.Moves.{Stand, between, escape, point, inside, state_of, Goes, Move, move, or_if, joined, with_move, MoveAdded, Added}
-use Rattle.moves.specs.Moves.{plain_moves, escape_moves, after_second_of, RowAdded, point_moves}
+use Rattle.moves.specs.Moves.{plain_moves, escape_moves, after_second_of, RowAdded, wide_rows, firsts, wide_moves, point_moves}
 use Rattle.moves.specs.Moves.{Followed, went, Leads, Follows, Arrived, came, Characters, Reader, Passes}
 use Rattle.moves.specs.Moves as M
 
@@ -34,27 +40,40 @@ pub added_then : {t t' t'' : List ℕ} {ms ns : List Move} → Added ms t t' →
 added_then {t} {t'} {t''} {ms} {ns} x y =
     record { long = y.long; each = λ b h. y.each b h ∙ ap (joined ns b) (x.each b h) ∙ sym (joined_then ms ns b (get_or t b 0)) }
 
--- the state after the second of so many bytes
-pub second_last : {n : ℕ} → (n ≡ 4 → ⊥) → (n ≡ 3 → ⊥) → 57 ≡ state_of (after_second_of n)
-second_last {n} f t =
-    ap₂ (λ (x y : Bool). state_of (elim x [ true ↦ point U.two | false ↦ elim y [ true ↦ point U.one | false ↦ between ] ]))
-    (sym (ne_eqb n 4 f)) (sym (ne_eqb n 3 t))
-
-pub second_same : {n k : ℕ} → n ≡ k → state_of (after_second_of k) ≡ state_of (after_second_of n)
-second_same e = ap (λ (k : ℕ). state_of (after_second_of k)) (sym e)
-
 -- the two moves of a row
-pub row_added : {n low high least most bytes state second : ℕ} {t t' t'' : List ℕ} → RowIs n low high least most bytes
-    → MoveAdded low high 57 state t t' → second ≡ state_of (after_second_of bytes) → MoveAdded least most state second t' t'' → RowAdded n state t t''
-row_added {n} {low} {high} {least} {most} {bytes} {state} {second} {t} {t'} {t''} r x q y =
+pub row_added : {r : Row} {state second : ℕ} {t t' t'' : List ℕ} → MoveAdded r.low r.high 57 state t t' → second ≡ state_of (after_second_of r.bytes)
+    → MoveAdded r.second_low r.second_high state second t' t'' → RowAdded r state t t''
+row_added {r} x q y =
     record {
       long = y.long;
       leads_to_lem = λ p e.
           added_then
-          (added_one (move (row_at rows n).low (row_at rows n).high between p) (rw (r.low_is, r.high_is, e) at x))
-          (added_one (move (row_at rows n).second_low (row_at rows n).second_high p (after_second_of (row_at rows n).bytes))
-          (rw (r.least_is, r.most_is, q ∙ sym (second_same r.bytes_are), e) at y));
+          (added_one (move r.low r.high between p) (rw e at x))
+          (added_one (move r.second_low r.second_high p (after_second_of r.bytes)) (rw (q, e) at y));
     }
+
+-- the moves of one part after another
+pub added_none : {t : List ℕ} → length t ≡ 256 → Added [] t t
+unfolding joined
+added_none h = record { long = h; each = λ b l. refl }
+
+pub added_more : {t t' t'' : List ℕ} {X : Type 0} (f : X → List Move) (xs : List X) (n : ℕ) (d : X) → n < length xs
+    → Added (flat_map f (take n xs)) t t' → Added (f (get_or xs n d)) t' t'' → Added (flat_map f (take (n + 1) xs)) t t''
+added_more f xs n d h x y =
+    rw (take_more xs n d h, sym (flat_map_more f [] (take n xs) (get_or xs n d))) (added_then x y)
+
+-- the rows after the first, each with the stand to which its first bytes lead
+abbrev pub leading_rows : List (Row × Stand)
+leading_rows = zip wide_rows firsts
+
+pub rows_more : {n : ℕ} {r : Row} {state : ℕ} {t t' t'' : List ℕ} → n < 8 → ((d : Row) → r ≡ get_or wide_rows n d)
+    → ((d : ℕ) → state ≡ get_or (map state_of firsts) n d) → Added (flat_map wide_moves (take n leading_rows)) t t' → RowAdded r state t' t''
+    → Added (flat_map wide_moves (take (n + 1) leading_rows)) t t''
+unfolding rows
+rows_more {n} {r} h er es x y =
+    added_more wide_moves leading_rows n (r, between) h x
+    (rw (get_or-zip wide_rows firsts n (r, between) h h, sym (er r))
+    (y.leads_to_lem (get_or firsts n between) (es 0 ∙ get_or-map state_of firsts n between 0 h)))
 
 -- a move that the machine makes
 abbrev TrueMove : Move → Type 0
@@ -228,26 +247,53 @@ leads_all {t} a =
         subst (λ (q : Stand). T (follows_from (word_of b) b q)) (stand_is p)
         (all_at 9 (λ n. follows_from (word_of b) b (stand_at n)) (and_right (nothing b) (each b) (is_sound b h)) (state_of p / 6 - 1) (stand_within p))
 
-zero-state : (p : Stand) → bit_and (0 / 2 ^ state_of p) 63 ≡ 0
-zero-state between = refl
-zero-state (point U.one) = refl
-zero-state (point U.two) = refl
-zero-state (point U.three) = refl
-zero-state (point U.due_e0) = refl
-zero-state (point U.due_ed) = refl
-zero-state (point U.due_f0) = refl
-zero-state (point U.due_f4) = refl
-zero-state escape = refl
-
 pub leads_nowhere : Leads (replicate 256 0)
-leads_nowhere =
-    record {
-      nowhere = λ b h. word b h 0;
-      somewhere = λ p b h. nowhere_by (word b h (state_of p) ∙ zero-state p);
-    }
+leads_nowhere = record { nowhere = λ b h. none b h 0; somewhere = λ p b h. nowhere_by (none b h (state_of p)) }
   where
-    word : (b : ℕ) → b < 256 → (n : ℕ) → bit_and (get_or (replicate {A = ℕ} 256 0) b 0 / 2 ^ n) 63 ≡ bit_and (0 / 2 ^ n) 63
-    word b h n = ap (λ (w : ℕ). bit_and (w / 2 ^ n) 63) (get_or-replicate {A = ℕ} 256 b 0 0 h)
+    none : (b : ℕ) → b < 256 → (n : ℕ) → bit_and (get_or (replicate {A = ℕ} 256 0) b 0 / 2 ^ n) 63 ≡ 0
+    none b h n = ap (λ (w : ℕ). bit_and (w / 2 ^ n) 63) (get_or-replicate {A = ℕ} 256 b 0 0 h) ∙ rw (zero-div (2 ^ n))
+
+-- A table that leads so leads so in one way: a state is that of one stand at most, and whether it is that of any is computed.
+state_set : IsSet State
+state_set = Prim.hlevel (props, ⊎_set)
+
+Goes-prop : (p : Stand) (b : ℕ) (q : Stand) → IsProp (Goes p b q)
+Goes-prop p b q = Prim.hlevel state_set
+
+state_some : (q : Stand) → 0 ≡ state_of q → ⊥
+unfolding stand_at stands
+state_some q e = let first : point U.one ≡ q = ap (λ (n : ℕ). stand_at (n / 6 - 1)) e ∙ stand_is q in omega (arith, ap state_of first)
+
+followed_to : {p : Stand} {b r : ℕ} → Followed p b r → (q : Stand) → r ≡ state_of q → Goes p b q
+followed_to M.lost q e = absurd (state_some q e)
+followed_to {p} {b} (went q' g) q e = subst (Goes p b) (same_stand q' q e) g
+
+followed_nowhere : {p : Stand} {b r : ℕ} → Followed p b r → ((q : Stand) → r ≡ state_of q → ⊥) → r ≡ 0
+followed_nowhere M.lost f = refl
+followed_nowhere (went q g) f = absurd (f q refl)
+
+followed_by : {p : Stand} {b r : ℕ} → ((q : Stand) → r ≡ state_of q → Goes p b q) → (((q : Stand) → r ≡ state_of q → ⊥) → r ≡ 0) → Followed p b r
+followed_by {p} {b} {r} there nowhere = by (eqb r (state_of nearest)) refl
+  where
+    nearest : Stand
+    nearest = stand_at (r / 6 - 1)
+
+    by : (x : Bool) → eqb r (state_of nearest) ≡ x → Followed p b r
+    by true e = let same : r ≡ state_of nearest = eqb-true r (state_of nearest) e in subst (Followed p b) (sym same) (went nearest (there nearest same))
+    by false e =
+        nowhere_by
+        (nowhere (λ q same.
+        let it : nearest ≡ q = ap (λ (n : ℕ). stand_at (n / 6 - 1)) same ∙ stand_is q in
+        eqb-false r (state_of nearest) e (same ∙ sym (ap state_of it))))
+
+pub open_leads : {t : List ℕ} → ∥ Leads t ∥₁ → Leads t
+open_leads {t} h =
+    record {
+      nowhere = λ b l. ∥∥₁_elim h (ℕ_set _ _) (λ x. x.nowhere b l);
+      somewhere = λ p b l.
+          followed_by (λ q e. ∥∥₁_elim h (Goes-prop p b q) (λ x. followed_to (x.somewhere p b l) q e))
+          (λ f. ∥∥₁_elim h (ℕ_set _ _) (λ x. followed_nowhere (x.somewhere p b l) f));
+    }
 
 -- one byte by a table
 pub leads_follows : {t : List ℕ} → Leads t → (b state : ℕ) → b < 256 → Follows b state (bit_and (get_or t b 0 / 2 ^ state) 63)
@@ -289,24 +335,22 @@ characters_then x y = record { led = λ f. led_on (x.led f) (y.led f) }
 -- a reader at its start
 pub reader_start : {s : List ℕ} {a : ℕ} → a ≤ length s → Reader s a a 57 a
 reader_start {s} {a} h =
-    record { small = omega arith; within = h; whole = characters_none h; arrived = came between (λ f. led_here s a (in_string f) h) }
+    record { within = h; whole = characters_none h; arrived = came between (λ f. led_here s a (in_string f) h) }
 
 -- by a byte: the end stays, or is after the byte where it ends a character
 module _ {s : List ℕ} {i state e r : ℕ} (h : i < length s) (y : Follows (get_or s i 0) state r) where
   pub passes_inside : Passes s i state e r e
   passes_inside =
       record {
-        small = y.small;
-        on = λ a x. record { small = y.small; within = omega arith; whole = x.whole; arrived = arrived_on x.arrived h y };
+        on = λ a x. record { within = omega arith; whole = x.whole; arrived = arrived_on x.arrived h y };
       }
 
   pub passes_between : bit_and r 1 ≡ 1 → Passes s i state e r (i + 1)
   passes_between q =
       record {
-        small = y.small;
         on = λ a x.
             let now = arrived_on x.arrived h y in
-            record { small = y.small; within = omega arith; whole = arrived_between now q; arrived = now };
+            record { within = omega arith; whole = arrived_between now q; arrived = now };
       }
 
 -- and by four
@@ -318,64 +362,44 @@ passes_four {s} {a} {i} r w x y z = at_place 3 z (at_place 2 y (at_place 1 x (w.
     at_place : (n : ℕ) {p e q f : ℕ} → Passes s (i + n) p e q f → Reader s a (i + n) p e → Reader s a (i + (n + 1)) q f
     at_place n {p} {e} {q} {f} x r = let k : i + n + 1 ≡ i + (n + 1) = omega arith in subst (λ j. Reader s a j q f) k (x.on a r)
 
--- a move on its way into a table: the word w has been added to those of the bytes from low to before b
-pub record Adding (low end w b : ℕ) (t t' : List ℕ) : Type 0 where
+-- a move on its way into a table: the word w has been added to those of its bytes before b
+pub record Adding (low high w b : ℕ) (t t' : List ℕ) : Type 0 where
   pub long : length t' ≡ 256
-  pub from_low : low ≤ b
-  pub within : (j : ℕ) → low ≤ j → j < b → j < end
-  pub each : (j : ℕ) → j < 256 → get_or t' j 0 ≡ or_if (leb low j && ltb j b) (get_or t j 0) w
+  pub each : (j : ℕ) → j < 256 → get_or t' j 0 ≡ or_if ((leb low j && leb j high) && ltb j b) (get_or t j 0) w
 
-pub adding_start : {low end w : ℕ} {t : List ℕ} → length t ≡ 256 → Adding low end w low t t
-adding_start {low} {end} {w} {t} h =
-    record {
-      long = h;
-      from_low = omega arith;
-      within = λ j l u. absurd (omega arith);
-      each = λ j l. ap (λ (x : Bool). or_if x (get_or t j 0) w) (sym (none j (leb low j) refl));
-    }
+none_before : (low high j : ℕ) → ((leb low j && leb j high) && ltb j low) ≡ false
+none_before low high j = grind (arith, nat_tests)
+
+one_more : (low high b j : ℕ) → (j ≡ b → ⊥) → ((leb low j && leb j high) && ltb j b) ≡ ((leb low j && leb j high) && ltb j (b + 1))
+one_more low high b j n = grind (arith, nat_tests)
+
+this_one : (low high b : ℕ) → low ≤ b → b ≤ high → ((leb low b && leb b high) && ltb b (b + 1)) ≡ true
+this_one low high b l h = grind (arith, nat_tests)
+
+not_yet : (low high b : ℕ) → ((leb low b && leb b high) && ltb b b) ≡ false
+not_yet low high b = grind (arith, nat_tests)
+
+all_before : (low high b j : ℕ) → high < b → ((leb low j && leb j high) && ltb j b) ≡ (leb low j && leb j high)
+all_before low high b j h = grind (arith, nat_tests)
+
+pub adding_start : {low high w : ℕ} {t : List ℕ} → length t ≡ 256 → Adding low high w low t t
+adding_start {low} {high} {w} {t} h =
+    record { long = h; each = λ j l. ap (λ (x : Bool). or_if x (get_or t j 0) w) (sym (none_before low high j)) }
+
+pub adding_more : {low high w b : ℕ} {t t' : List ℕ} → Adding low high w b t t' → low ≤ b → b ≤ high → b < 256
+    → Adding low high w (b + 1) t (set t' b (bit_or (get_or t' b 0) w))
+adding_more {low} {high} {w} {b} {t} {t'} a h u k =
+    record { long = length-set t' b (bit_or (get_or t' b 0) w) ∙ a.long; each = λ j l. by j l (eqb j b) refl }
   where
-    none : (j : ℕ) (x : Bool) → leb low j ≡ x → (leb low j && ltb j low) ≡ false
-    none j true e = rw (e, le-ltb j low (leb-true low j e))
-    none j false e = rw e
-
-pub adding_more : {low end w b : ℕ} {t t' : List ℕ} → Adding low end w b t t' → b < end → b < 256
-    → Adding low end w (b + 1) t (set t' b (bit_or (get_or t' b 0) w))
-adding_more {low} {end} {w} {b} {t} {t'} a h u =
-    record {
-      long = length-set t' b (bit_or (get_or t' b 0) w) ∙ a.long;
-      from_low = omega (arith, a.from_low);
-      within = λ j l k. omega arith;
-      each = λ j l. by j l (eqb j b) refl;
-    }
-  where
-    here : get_or t' b 0 ≡ get_or t b 0
-    here = a.each b u ∙ rw (le-leb low b a.from_low, le-ltb b b (omega arith))
-
     by : (j : ℕ) → j < 256 → (x : Bool) → eqb j b ≡ x
-        → get_or (set t' b (bit_or (get_or t' b 0) w)) j 0 ≡ or_if (leb low j && ltb j (b + 1)) (get_or t j 0) w
+        → get_or (set t' b (bit_or (get_or t' b 0) w)) j 0 ≡ or_if ((leb low j && leb j high) && ltb j (b + 1)) (get_or t j 0) w
     by j l true e =
-        rw (eqb-true j b e, le-leb low b a.from_low, lt-ltb b (b + 1) (omega arith))
-        (get_or-set_same t' b (bit_or (get_or t' b 0) w) 0 (omega (arith, a.long)) ∙ ap (λ (x : ℕ). bit_or x w) here)
+        rw (eqb-true j b e, this_one low high b h u)
+        (get_or-set_same t' b (bit_or (get_or t' b 0) w) 0 (omega (arith, a.long)) ∙ ap (λ (x : ℕ). bit_or x w) (a.each b k ∙ rw (not_yet low high b)))
     by j l false e =
         let n : j ≡ b → ⊥ = eqb-false j b e in
-        get_or-set_other t' b j (bit_or (get_or t' b 0) w) 0 n ∙ a.each j l
-        ∙ ap (λ (x : Bool). or_if (leb low j && x) (get_or t j 0) w) (same (ltb j b) refl n)
-      where
-        same : (x : Bool) → ltb j b ≡ x → (j ≡ b → ⊥) → ltb j b ≡ ltb j (b + 1)
-        same true q n = rw (q, lt-ltb j (b + 1) (omega (arith, ltb-true j b q)))
-        same false q n = rw (q, le-ltb j (b + 1) (omega (arith, ltb-false j b q)))
+        get_or-set_other t' b j (bit_or (get_or t' b 0) w) 0 n ∙ a.each j l ∙ ap (λ (x : Bool). or_if x (get_or t j 0) w) (one_more low high b j n)
 
-pub adding_done : {low high from to b : ℕ} {t t' : List ℕ} → Adding low (high + 1) (to * 2 ^ from % 2 ^ 64) b t t' → high + 1 ≤ b
-    → MoveAdded low high from to t t'
+pub adding_done : {low high from to b : ℕ} {t t' : List ℕ} → Adding low high (to * 2 ^ from % 2 ^ 64) b t t' → high < b → MoveAdded low high from to t t'
 adding_done {low} {high} {from} {to} {b} {t} {t'} a h =
-    record {
-      long = a.long;
-      each = λ j l.
-          a.each j l
-          ∙ ap (λ (x : Bool). or_if x (get_or t j 0) (to * 2 ^ from % 2 ^ 64)) (same j (leb low j) refl (ltb j b) refl);
-    }
-  where
-    same : (j : ℕ) (x : Bool) → leb low j ≡ x → (y : Bool) → ltb j b ≡ y → (leb low j && ltb j b) ≡ (leb low j && leb j high)
-    same j false e y f = rw e
-    same j true e true f = rw (e, f, le-leb j high (omega (arith, a.within j (leb-true low j e) (ltb-true j b f))))
-    same j true e false f = rw (e, f, lt-leb j high (omega (arith, ltb-false j b f)))
+    record { long = a.long; each = λ j l. a.each j l ∙ ap (λ (x : Bool). or_if x (get_or t j 0) (to * 2 ^ from % 2 ^ 64)) (all_before low high b j h) }

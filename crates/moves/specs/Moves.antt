@@ -1,8 +1,11 @@
 -- The inside of a string by a table of moves: the word of a byte has six bits for each state of a reader, which are the state after the byte.
 -- Where a table leads, the record grammar's machine goes; a table need not lead everywhere.
-use Rattle.std.specs.Prelude.{◌≡◌, List, [], ◌∷◌, ◌++◌, Bool, true, false, ◌&&◌, ℕ, ◌+◌, ◌*◌, ◌/◌, ◌%◌, ◌^◌, ◌≤◌, ◌<◌, leb, eqb, length, get_or}
+use Rattle.std.specs.Prelude.{◌≡◌, List, [], ◌∷◌, Bool, true, false, ◌&&◌, ℕ, ◌+◌, ◌*◌, ◌/◌, ◌%◌, ◌^◌, ◌≤◌, ◌<◌, leb, eqb, length, get_or, drop, map}
 use Rattle.std.specs.Int.Bits.{bit_and, bit_or}
-use Rattle.encoding.specs.Utf8.{Row, rows}
+use Rattle.std.specs.List.{flat_map, zip}
+use Rattle.encoding.specs.Utf8.{rows}
+use Rattle.encoding.specs.RowTable.{stored}
+use Rattle.encoding.specs.declared.tables.Row.{Row}
 use Rattle.encoding.specs.Utf8Steps as U
 use Rattle.encoding.specs.Utf8Steps.{Due, row_at}
 use Rattle.json_text.specs.Room.{Room}
@@ -87,12 +90,15 @@ plain_moves =
     move 0x5D (row_at rows 0).high between between ∷
     move 0x5C 0x5C between escape ∷ []
 
--- letters after a backslash that stand for one character
-abbrev pub letter : ℕ → Move
-letter b = move b b escape between
+-- the letters that stand for one character after a backslash
+abbrev pub escape_letters : List ℕ
+escape_letters = 0x22 ∷ 0x5C ∷ 0x2F ∷ 0x62 ∷ 0x66 ∷ 0x6E ∷ 0x72 ∷ 0x74 ∷ []
+
+abbrev pub letter : ℕ → List Move
+letter b = move b b escape between ∷ []
 
 unfoldable pub escape_moves : List Move
-escape_moves = letter 0x22 ∷ letter 0x5C ∷ letter 0x2F ∷ letter 0x62 ∷ letter 0x66 ∷ letter 0x6E ∷ letter 0x72 ∷ letter 0x74 ∷ []
+escape_moves = flat_map letter escape_letters
 
 -- after the second of so many bytes
 abbrev pub after_second_of : ℕ → Stand
@@ -102,21 +108,23 @@ after_second_of n = elim (eqb n 4) [ true ↦ point U.two | false ↦ elim (eqb 
 abbrev pub row_moves : Row → Stand → List Move
 row_moves r p = move r.low r.high between p ∷ move r.second_low r.second_high p (after_second_of r.bytes) ∷ []
 
-pub record RowAdded (n state : ℕ) (t t' : List ℕ) : Type 0 where
+pub record RowAdded (r : Row) (state : ℕ) (t t' : List ℕ) : Type 0 where
   pub long : length t' ≡ 256
-  pub leads_to_lem : (p : Stand) → state ≡ state_of p → Added (row_moves (row_at rows n) p) t t'
+  pub leads_to_lem : (p : Stand) → state ≡ state_of p → Added (row_moves r p) t t'
+
+-- the rows after the first, and where the first bytes of each lead
+abbrev pub wide_rows : List Row
+wide_rows = drop 1 (map stored rows)
+
+abbrev pub firsts : List Stand
+firsts =
+    point U.one ∷ point U.due_e0 ∷ point U.two ∷ point U.due_ed ∷ point U.two ∷ point U.due_f0 ∷ point U.three ∷ point U.due_f4 ∷ []
+
+abbrev pub wide_moves : Row × Stand → List Move
+wide_moves x = row_moves x.0 x.1
 
 unfoldable pub point_moves : List Move
-unfolding rows
-point_moves =
-    row_moves (row_at rows 1) (point U.one)
-    ++ row_moves (row_at rows 2) (point U.due_e0)
-    ++ row_moves (row_at rows 3) (point U.two)
-    ++ row_moves (row_at rows 4) (point U.due_ed)
-    ++ row_moves (row_at rows 5) (point U.two)
-    ++ row_moves (row_at rows 6) (point U.due_f0)
-    ++ row_moves (row_at rows 7) (point U.three)
-    ++ row_moves (row_at rows 8) (point U.due_f4)
+point_moves = flat_map wide_moves (zip wide_rows firsts)
 
 -- the state after the byte b at the stand p: 0 for nowhere, or that of a stand to which the machine goes
 pub data Followed (p : Stand) (b : ℕ) : ℕ → Type 0 where
@@ -145,12 +153,10 @@ pub record Characters (s : List ℕ) (i r : ℕ) : Type 0 where
 
 -- a reader in the state at place i, which began at place a, and has read whole characters up to place e
 pub record Reader (s : List ℕ) (a i state e : ℕ) : Type 0 where
-  pub small : state < 64
   pub within : i ≤ length s
   pub whole : Characters s a e
   pub arrived : Arrived s a i state
 
 -- the byte at place i takes each reader, wherever it began, from one state and end to others
 pub record Passes (s : List ℕ) (i state e state' e' : ℕ) : Type 0 where
-  pub small : state' < 64
   pub on : (a : ℕ) → Reader s a i state e → Reader s a (i + 1) state' e'

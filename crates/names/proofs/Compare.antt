@@ -1,101 +1,82 @@
--- Two names compared from a place of each on: what is left of each decides. Assumes nothing.
+-- A query's name compared with a record's name: what is left of the one after what the other is decoded to so far. Assumes nothing.
 use mathlib.Core.Path.{◌≡◌, refl, sym, ap, ◌∙◌}
-use mathlib.Core.Bool.{Bool, true, false, and-false}
-use mathlib.Core.List.{List, [], ◌∷◌, ◌++◌, append_assoc}
-use Prim.Native.Nat.{ℕ, ◌+◌, ◌≤◌, ◌<◌}
+use mathlib.Core.Bool.{Bool, false, ◌&&◌}
+use mathlib.Core.List.{List, [], ◌∷◌, ◌++◌, append_assoc, append-nil}
+use mathlib.Core.Logic.{◌≢◌}
+use Prim.Native.Nat.{ℕ, suc, ◌+◌, ◌≤◌, ◌<◌}
 use native.Mathlib.Omega.{arith}
-use borrow.Author.Tests.{eq-eqb, ne_eqb, eqb-true, eqb-false, le-leb, lt-leb}
-use lib.Dec.{eqb, leb}
-use lib.ListN.{length, get_or}
-use lib.Seq.{slice, slice_empty}
+use lib.Dec.{eqb, eqb-suc-zero}
+use lib.ListN.{length, get_or, drop, length-append}
+use Rattle.std.specs.Cmp.Lexicographic.{pointwise}
+use Rattle.std.proofs.lemmas.List.{append_cancel_left}
+use Rattle.bits.specs.Truth.{refuted}
 use Rattle.encoding.specs.Bytes.{same_numbers}
-use Rattle.encoding.specs.Unescape.{unescaped}
-use Rattle.encoding.specs.UnescapeLaws.{unescaped-nil}
-use Rattle.escapes.specs.Escapes.{EscapeAt}
+use Rattle.encoding.specs.BytesLaws.{same_numbers_lem}
 use Rattle.encoding.specs.Points.{utf8}
-use Rattle.names.specs.Names.{stands, After}
-use Rattle.escapes.specs.LeftLaws.{next, nothing, plain_left, escape_left}
+use Rattle.encoding.specs.Unescape.{unescaped}
+use Rattle.escapes.specs.Escapes.{EscapeAt}
+use Rattle.escapes.specs.LeftLaws.{rest_at}
+use Rattle.names.proofs.Decoding.{Decoded, decoded_start, decoded_end, decoded_byte, decoded_escape}
 
-module _ (names : List ℕ) (i to : ℕ) where
-  missed : (s : List ℕ) → stands names (to + 1) to s ≡ false
-  unfolding stands
-  missed s = let l : to < to + 1 = omega arith in rw (lt-leb (to + 1) to l)
-
-  -- one byte: there, another, or none left
-
-  pub after_there : {b : ℕ} → i < to → to ≤ length names → get_or names i 0 ≡ b → After names i to (b ∷ []) (i + 1)
-  unfolding stands same_numbers
-  after_there {b} h k e =
-      let l : i ≤ to = omega arith in
-      let l' : i + 1 ≤ to = omega arith in
-      record {
-        within = omega arith;
-        same = λ s. rw (le-leb i to l, le-leb (i + 1) to l', next names i to h k, eq-eqb (get_or names i 0) b e);
-      }
-
-  pub after_other : {b : ℕ} → i < to → to ≤ length names → (get_or names i 0 ≡ b → ⊥) → After names i to (b ∷ []) (to + 1)
-  unfolding stands same_numbers
-  after_other {b} h k e =
-      let l : i ≤ to = omega arith in
-      record {
-        within = omega arith;
-        same = λ s. rw (le-leb i to l, next names i to h k, ne_eqb (get_or names i 0) b e) (sym (missed s));
-      }
-
-  pub after_none : {b : ℕ} → to ≤ i → After names i to (b ∷ []) (to + 1)
-  unfolding stands same_numbers
-  after_none h =
-      record { within = omega arith; same = λ s. rw (nothing names i to h) (and-false (leb i to) ∙ sym (missed s)) }
-
--- bytes and then more
-pub after_both : {names : List ℕ} {i j k to : ℕ} {a b : List ℕ} → After names i to a j → After names j to b k → After names i to (a ++ b) k
-after_both {names} {i} {j} {k} {to} {a} {b} f g =
-    record { within = g.within; same = λ s. rw (append_assoc a b s) (f.same (b ++ s) ∙ g.same s) }
-
--- at the end of the bytes the names are at their end too, or they are others
-ended : (names : List ℕ) (i to : ℕ) → i ≤ to → to ≤ length names → same_numbers (slice i to names) [] ≡ eqb i to
+-- equality of slices is that of their numbers
+pub same_bytes : (s t : List ℕ) → pointwise eqb s t ≡ same_numbers s t
 unfolding same_numbers
-ended names i to h k = go (eqb i to) refl
-  where
-    go : (x : Bool) → eqb i to ≡ x → same_numbers (slice i to names) [] ≡ x
-    go true e = rw (eqb-true i to e, slice_empty to names)
-    go false e = let f = eqb-false i to e in let l : i < to = omega arith in rw (next names i to l k)
+same_bytes [] [] = refl
+same_bytes [] (c ∷ t) = refl
+same_bytes (b ∷ s) [] = refl
+same_bytes (b ∷ s) (c ∷ t) = ap (λ (x : Bool). eqb b c && x) (same_bytes s t)
 
--- the names are the same exactly if what is left of them is
-pub record Going (names : List ℕ) (from to : ℕ) (s : List ℕ) (x y i j : ℕ) : Type 0 where
-  pub same : same_numbers (slice from to names) (unescaped (slice x y s)) ≡ stands names i to (unescaped (slice j y s))
+-- the name begins with what is decoded so far, and these are what is left of both
+pub record Passed (name s rest : List ℕ) (j : ℕ) : Type 0 where
+  pub bytes : List ℕ
+  pub decoded : Decoded s bytes j
+  pub name_is : name ≡ bytes ++ rest
 
-pub record Still (names : List ℕ) (from to : ℕ) (s : List ℕ) (x y i j : ℕ) : Type 0 where
-  pub within : i ≤ to
-  pub going : Going names from to s x y i j
+pub passed_start : (name s : List ℕ) → Passed name s name 0
+passed_start name s = record { bytes = []; decoded = decoded_start s; name_is = refl }
 
-module _ {names : List ℕ} {from to : ℕ} {s : List ℕ} {x y : ℕ} where
-  pub still_start : from ≤ to → Still names from to s x y from x
-  unfolding stands
-  still_start h = record { within = h; going = record { same = rw (le-leb from to h) } }
+module _ {name s rest : List ℕ} {j : ℕ} (v : Passed name s rest j) where
+  pub passed_end : length s ≤ j → name ≡ unescaped s ++ rest
+  passed_end h = v.name_is ∙ ap (λ (l : List ℕ). l ++ rest) (sym (decoded_end v.decoded h))
 
-  module _ {i j : ℕ} (v : Still names from to s x y i j) where
-    -- what is left decides
-    pub still_left :
-        {r : Bool} → r ≡ same_numbers (slice i to names) (unescaped (slice j y s)) →
-        r ≡ same_numbers (slice from to names) (unescaped (slice x y s))
-    unfolding stands
-    still_left e = e ∙ sym (v.going.same ∙ rw (le-leb i to v.within))
+  -- the name goes on with what is decoded next, or with something else
+  go_on : (new : List ℕ) {k : ℕ} → Decoded s (v.bytes ++ new) k → (after : List ℕ) → rest ≡ new ++ after → Passed name s after k
+  go_on new d after e =
+      record {
+        bytes = v.bytes ++ new;
+        decoded = d;
+        name_is = v.name_is ∙ ap (λ (l : List ℕ). v.bytes ++ l) e ∙ sym (append_assoc v.bytes new after);
+      }
 
-    -- at the end of the record's name
-    pub still_end : to ≤ length names → y ≤ j → eqb i to ≡ same_numbers (slice from to names) (unescaped (slice x y s))
-    still_end k h = still_left (sym (rw (nothing s j y h, unescaped-nil) (ended names i to v.within k)))
+  differ : (new : List ℕ) {k : ℕ} → Decoded s (v.bytes ++ new) k → ((after : List ℕ) → rest ≢ new ++ after) → (after : List ℕ) → name ≢ unescaped s ++ after
+  differ new {k} d f after e =
+      let left = unescaped (drop k s) in
+      let whole : v.bytes ++ rest ≡ v.bytes ++ (new ++ (left ++ after))
+      = sym v.name_is ∙ e ∙ ap (λ (l : List ℕ). l ++ after) d.is ∙ simp append_assoc in
+      f (left ++ after) (append_cancel_left v.bytes rest (new ++ (left ++ after)) whole)
 
-    module _ (h : j < y) (k : y ≤ length s) where
-      pub still_byte : {r : ℕ} → (get_or s j 0 ≡ 0x5C → ⊥) → After names i to (get_or s j 0 ∷ []) r → Going names from to s x y r (j + 1)
-      still_byte f g = record { same = v.going.same ∙ ap (stands names i to) (plain_left s j y h k f) ∙ g.same _ }
+  module _ (h : j < length s) where
+    module _ (f : get_or s j 0 ≡ 0x5C → ⊥) where
+      pub passed_byte : {after : List ℕ} → rest ≡ (get_or s j 0 ∷ []) ++ after → Passed name s after (j + 1)
+      passed_byte {after} e = go_on (get_or s j 0 ∷ []) (decoded_byte v.decoded h f) after e
 
-      pub still_escape :
-          {p n r : ℕ} → get_or s j 0 ≡ 0x5C → EscapeAt (slice j y s) p n → After names i to (utf8 p []) r →
-          Going names from to s x y r (j + n)
-      still_escape e q g = record { same = v.going.same ∙ ap (stands names i to) (escape_left s j y h k e q) ∙ g.same _ }
+      pub other_byte : ((after : List ℕ) → rest ≢ (get_or s j 0 ∷ []) ++ after) → (after : List ℕ) → name ≢ unescaped s ++ after
+      other_byte e = differ (get_or s j 0 ∷ []) (decoded_byte v.decoded h f) e
 
-  -- a difference was found
-  pub differs : {i j : ℕ} → Going names from to s x y i j → to < i → false ≡ same_numbers (slice from to names) (unescaped (slice x y s))
-  unfolding stands
-  differs {i} v h = sym (v.same ∙ rw (lt-leb i to h))
+    module _ {p n : ℕ} (f : get_or s j 0 ≡ 0x5C) (x : EscapeAt (rest_at s j) p n) where
+      pub passed_escape : {after : List ℕ} → rest ≡ utf8 p [] ++ after → Passed name s after (j + n)
+      passed_escape {after} e = go_on (utf8 p []) (decoded_escape v.decoded h f x) after e
+
+      pub other_escape : ((after : List ℕ) → rest ≢ utf8 p [] ++ after) → (after : List ℕ) → name ≢ unescaped s ++ after
+      other_escape e = differ (utf8 p []) (decoded_escape v.decoded h f x) e
+
+-- the names are the same just if nothing is left
+module _ {name : List ℕ} (bytes : List ℕ) where
+  pub same_by : (rest : List ℕ) → name ≡ bytes ++ rest → eqb (length rest) 0 ≡ same_numbers name bytes
+  same_by [] e = sym ((same_numbers_lem name bytes).1 (e ∙ append-nil bytes))
+  same_by (b ∷ rest) e =
+      let longer : length name ≡ length bytes + suc (length rest) = ap length e ∙ length-append bytes (b ∷ rest) in
+      eqb-suc-zero (length rest) ∙ sym (refuted (same_numbers name bytes) (λ h. omega (arith, longer, ap length ((same_numbers_lem name bytes).0 h))))
+
+  pub other_by : ((rest : List ℕ) → name ≢ bytes ++ rest) → false ≡ same_numbers name bytes
+  other_by f = sym (refuted (same_numbers name bytes) (λ h. f [] ((same_numbers_lem name bytes).0 h ∙ sym (append-nil bytes))))

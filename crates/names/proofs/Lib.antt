@@ -1,3 +1,3 @@
-pub mod Agree
 pub mod Compare
+pub mod Decoding
 pub mod Write

@@ -1,7 +1,6 @@
--- The buffer of a query's decoded names, and what is promised of what is written into it and of what is compared with it.
-use Rattle.std.specs.Prelude.{◌≡◌, List, ◌++◌, Bool, ◌&&◌, ℕ, ◌+◌, ◌≤◌, leb, length, take, drop}
-use Rattle.std.proofs.Math.Seq.{slice}
-use Rattle.encoding.specs.Bytes.{same_numbers}
+-- The buffer of a query's decoded names, and what is promised of what is written into it and of what a name is compared with.
+use Rattle.std.specs.Prelude.{◌≡◌, ◌≢◌, List, ◌++◌, Option, MatchOption, ℕ, ◌+◌, length, take, drop}
+use denote.Bor.{Bor}
 
 -- how many bytes the buffer has
 abbrev pub names_size : ℕ
@@ -12,12 +11,6 @@ pub record Written (before : List ℕ) (i : ℕ) (bytes after : List ℕ) (r : �
   pub end : r ≡ i + length bytes
   pub all : after ≡ take i before ++ bytes ++ drop r before
 
--- the names from i to `to` are s; an i past `to` says that a difference was found
-unfoldable pub stands : List ℕ → (i to : ℕ) → List ℕ → Bool
-unfolding same_numbers
-stands names i to s = leb i to && same_numbers (slice i to names) s
-
--- r is the place after bytes that stand at i, or one past `to` where they do not stand there
-pub record After (names : List ℕ) (i to : ℕ) (bytes : List ℕ) (r : ℕ) : Type 0 where
-  pub within : r ≤ to + 1
-  pub same : (s : List ℕ) → stands names i to (bytes ++ s) ≡ stands names r to s
+-- what is left of a name after these bytes, or that it does not begin with them
+abbrev pub After : (name bytes : List ℕ) → Option (Bor (List ℕ)) → Type 0
+After name bytes r = MatchOption r ((rest : List ℕ) → name ≢ bytes ++ rest) (λ rest. name ≡ bytes ++ rest.now)

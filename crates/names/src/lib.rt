@@ -1,12 +1,11 @@
 // Names by their code points: a query's name written decoded, and a record's name compared with it.
 #![tactic(auto)]
 
-ghost use Rattle.std.specs.Prelude.{◌≡◌, [], ◌∷◌, ◌+◌, ◌-◌, ◌≤◌, ◌<◌, length};
-ghost use Rattle.std.proofs.Math.Seq.{slice};
+ghost use Rattle.std.specs.Prelude.{◌≡◌, [], ◌∷◌, ◌+◌, ◌≤◌, ◌<◌, length};
 ghost use Rattle.encoding.specs.Bytes.{same_numbers};
 ghost use Rattle.encoding.specs.Points.{utf8};
 ghost use Rattle.encoding.specs.Unescape.{unescaped};
-ghost use Rattle.names.specs.Names.{names_size, Written, After};
+ghost use Rattle.names.specs.Names.{Written, After};
 
 use escapes::{BACKSLASH, escape_at, in_utf8};
 
@@ -16,159 +15,92 @@ pub const NAMES_SIZE: usize = 1024;
 // The names of a query, decoded: each begins at the place in the query where it is written.
 pub type Names = [u8; NAMES_SIZE];
 
-// The place after `b` where it stands at `i`, before `to`; one past `to` where it does not.
-fn after_byte(names: &Names, i: usize, to: usize, b: u8) -> usize
-    requires { (to ≤ names_size) × (length names.now ≡ names_size) × (i ≤ to + 1) }
-    ensures { After names.now i to (b ∷ []) result }
+// What is left of a name after `b`, where it begins with that.
+fn after_byte(name: &[u8], b: u8) -> Option<&[u8]>
+    ensures { After name.now (b ∷ []) result }
 {
-    if i < to {
-        if names[i] == b {
-            return i + 1;
-        }
-    }
-    to + 1
+    let (first, rest) = name.split_first()?;
+    (*first == b).then_some(rest)
 }
 
 // The same for a code point in UTF-8.
-fn after_point(names: &Names, i: usize, to: usize, point: u32) -> usize
-    requires { (to ≤ names_size) × (length names.now ≡ names_size) × (i ≤ to + 1) × (point < 0x110000) }
-    ensures { After names.now i to (utf8 point []) result }
+fn after_point(name: &[u8], point: u32) -> Option<&[u8]>
+    requires { point < 0x110000 }
+    ensures { After name.now (utf8 point []) result }
 {
     let code = in_utf8(point);
-    let size = code.size;
-    let i1 = after_byte(names, i, to, code.first);
-    if size == 1 {
-        return i1;
-    }
-    let i2 = after_byte(names, i1, to, code.second);
-    if size == 2 {
-        return i2;
-    }
-    let i3 = after_byte(names, i2, to, code.third);
-    if size == 3 {
-        return i3;
-    }
-    after_byte(names, i3, to, code.fourth)
+    name.strip_prefix(code.as_bytes())
 }
 
-// Whether a name of the query, from `from` to `to`, is the record's bytes from `x` to `y` as they are written.
-pub fn same_written(
-    names: &Names,
-    from: usize,
-    to: usize,
-    record: &[u8],
-    x: usize,
-    y: usize,
-) -> bool
-    requires from_le_to { (from ≤ to) × (to ≤ names_size) }
-    requires x_le_y { (x ≤ y) × (y ≤ length «record».now) }
-    ensures { result ≡ same_numbers (slice from to names.now) (slice x y «record».now) }
+// The same for what is written, once its escapes are decoded.
+fn after_written<'a>(name: &'a [u8], written: &[u8]) -> Option<&'a [u8]>
+    ensures { After name.now (unescaped written.now) result }
 {
-    // As a slice the buffer is known to have all of its bytes.
-    let all: &[u8] = names;
-    if to - from != y - x {
-        return false;
-    }
-    let mut i = from;
-    let mut j = x;
-    while i < to {
-        if names[i] != record[j] {
-            return false;
-        }
-        i += 1;
-        j += 1;
-    }
-    true
-}
-
-// Whether a name of the query, from `from` to `to`, has the code points of the record's name from `x` to `y`, whose escapes are decoded on
-// the way.
-pub fn same_decoded(
-    names: &Names,
-    from: usize,
-    to: usize,
-    record: &[u8],
-    x: usize,
-    y: usize,
-) -> bool
-    requires from_le_to { (from ≤ to) × (to ≤ names_size) }
-    requires x_le_y { (x ≤ y) × (y ≤ length «record».now) }
-    ensures { result ≡ same_numbers (slice from to names.now) (unescaped (slice x y «record».now)) }
-{
-    // As a slice the buffer is known to have all of its bytes.
-    let all: &[u8] = names;
-    let mut i = from;
-    let mut j = x;
-    while j < y {
-        let written = record[j];
-        let escape = written == BACKSLASH;
+    let mut rest = name;
+    let mut j = 0;
+    while j < written.len() {
+        let b = written[j];
+        let escape = b == BACKSLASH;
         if escape {
-            let e = escape_at(record, j, y);
-            i = after_point(names, i, to, e.point);
+            let e = escape_at(&written[j..]);
+            rest = after_point(rest, e.point)?;
             j += e.size;
         } else {
-            i = after_byte(names, i, to, written);
+            rest = after_byte(rest, b)?;
             j += 1;
         }
-        if i > to {
-            return false;
-        }
     }
-    i == to
+    Some(rest)
 }
 
-// Writes `b` at `i`, and gives the place after it.
-fn put_byte(names: &mut Names, i: usize, b: u8) -> usize
-    requires { (i < names_size) × (length names.old ≡ names_size) }
-    ensures written { Written names.old i (b ∷ []) names.new result }
-    ensures names_len { length names.new ≡ names_size }
+// Whether a name of a query is a record's name, as that is written.
+#[tactic(auto, using(crate::proofs::Compare::same_bytes))]
+pub fn same_written(name: &[u8], written: &[u8]) -> bool
+    ensures { result ≡ same_numbers name.now written.now }
 {
-    names[i] = b;
-    i + 1
+    name == written
 }
 
-// Writes a code point in UTF-8 from `i` on, and gives the place after it.
-fn put_point(names: &mut Names, i: usize, point: u32) -> usize
-    requires { (point < 0x110000) × (i + length (utf8 point []) ≤ names_size) × (length names.old ≡ names_size) }
-    ensures { Written names.old i (utf8 point []) names.new result }
+// Whether a name of a query has the code points of a record's name, whose escapes are decoded on the way.
+#[tactic(auto, using(crate::proofs::Compare::same_by, crate::proofs::Compare::other_by))]
+pub fn same_decoded(name: &[u8], written: &[u8]) -> bool
+    ensures { result ≡ same_numbers name.now (unescaped written.now) }
 {
-    let code = in_utf8(point);
-    let size = code.size;
-    let i1 = put_byte(names, i, code.first);
-    if size == 1 {
-        return i1;
+    match after_written(name, written) {
+        Some(rest) => rest.is_empty(),
+        None => false,
     }
-    let i2 = put_byte(names, i1, code.second);
-    if size == 2 {
-        return i2;
-    }
-    let i3 = put_byte(names, i2, code.third);
-    if size == 3 {
-        return i3;
-    }
-    put_byte(names, i3, code.fourth)
 }
 
-// Writes the query's name from `from` to `to` decoded, in UTF-8, at the same place, and gives the place after it. What is decoded is never
-// longer than what was written.
-pub fn write_name(query: &[u8], from: usize, to: usize, names: &mut Names) -> usize
-    requires from_le_to { (from ≤ to) × (to ≤ length query.now) }
-    requires to_le_names_size { (to ≤ names_size) × (length names.old ≡ names_size) }
-    ensures written { Written names.old from (unescaped (slice from to query.now)) names.new result }
-    ensures upper_bound { result ≤ to }
+// Writes bytes at `at`, and gives the place after them.
+fn put(names: &mut [u8], at: usize, bytes: &[u8]) -> usize
+    requires { at + length bytes.now ≤ length names.old }
+    ensures { Written names.old at bytes.now names.new result }
 {
-    let mut i = from;
-    let mut j = from;
-    while j < to {
-        let b = query[j];
+    let end = at + bytes.len();
+    names[at..end].copy_from_slice(bytes);
+    end
+}
+
+// Writes a name of a query decoded, in UTF-8, at `at`, and gives the place after it. What is decoded is never longer than what was written.
+pub fn write_name(name: &[u8], names: &mut [u8], at: usize) -> usize
+    requires { at + length name.now ≤ length names.old }
+    ensures written { Written names.old at (unescaped name.now) names.new result }
+    ensures upper_bound { result ≤ at + length name.now }
+{
+    let mut end = at;
+    let mut j = 0;
+    while j < name.len() {
+        let b = name[j];
         if b == BACKSLASH {
-            let e = escape_at(query, j, to);
-            i = put_point(names, i, e.point);
+            let e = escape_at(&name[j..]);
+            let code = in_utf8(e.point);
+            end = put(names, end, code.as_bytes());
             j += e.size;
         } else {
-            i = put_byte(names, i, b);
+            end = put(names, end, &[b]);
             j += 1;
         }
     }
-    i
+    end
 }

@@ -4,89 +4,75 @@
 ghost use Rattle.std.specs.Prelude.{◌≡◌, ◌≤◌};
 ghost use Rattle.automaton.specs.Halves.{end_pair};
 ghost use Rattle.json_text.specs.Verdict.{max_bytes};
-ghost use Rattle.pairs.specs.Pairs.{Writes, Begins, Raises};
+ghost use Rattle.pairs.specs.Pairs.{plus_one, Writes, Begins, Raises};
 
-// What a walk counts: the pairs used, the most frames at once, and one more than the first byte of the first node left over, or 0.
-#[derive(Drop)]
+// What a walk counts: the pairs used, the most frames at once, and the first byte of the first node left over, if there is one.
+#[derive(Clone, Copy)]
 pub struct Counts {
     pub used: usize,
     pub peak: usize,
-    pub stop: usize,
+    pub stop: Option<usize>,
 }
 
-// The pairs used, one more than the first byte of the first node left over or 0, and the pair that waits for its end plus one or 0.
-#[derive(Drop)]
-pub struct Begun {
-    pub used: usize,
-    pub stop: usize,
-    pub wait: usize,
+// The numbers of a pair: where a node begins, and the place after it.
+#[derive(Clone, Copy)]
+enum Half {
+    First,
+    End,
 }
 
-// Writes a place of the record into a pair of the list, as its first number where `half` is 0 and as its second where it is 1. Nothing
-// is written where the list has no such pair.
-fn write(list: &mut [u32], pair: usize, half: usize, place: usize)
-    requires { (half ≤ 1) × (place ≤ max_bytes) }
+// Writes a place of the record into a pair of the list. Nothing is written where the list has no such pair.
+fn write(list: &mut [u32], pair: usize, half: Half, place: usize)
+    requires { place ≤ max_bytes }
     ensures { Writes list.old pair half place list.new }
 {
-    if pair >= list.len() / 2 {
+    if list.len() / 2 <= pair {
         return;
     }
-    let slot = pair * 2 + half;
+    let slot = match half {
+        Half::First => pair * 2,
+        Half::End => pair * 2 + 1,
+    };
     list[slot] = place as u32;
 }
 
-// Takes the next pair for a node that is picked out and writes its first byte there. Where no pair is left the walk stops at this
-// node. Nothing changes for a node that is not picked out, and nothing after a stop.
-pub fn begin(list: &mut [u32], picked: bool, used: usize, stop: usize, at: usize) -> Begun
+// Takes the next pair for a node that is picked out and writes its first byte there: the pair, which waits for its end. Where no pair is left
+// the walk stops at this node. Nothing changes for a node that is not picked out, and nothing after a stop.
+pub fn begin(list: &mut [u32], picked: bool, counts: &mut Counts, at: usize) -> Option<usize>
     requires { at ≤ max_bytes }
-    ensures { Begins picked list.old used stop at list.new result.used result.stop result.wait }
+    ensures { Begins picked list.old counts.old at list.new counts.new result }
 {
-    if stop != 0 {
-        return Begun {
-            used,
-            stop,
-            wait: 0,
-        };
+    if counts.stop.is_some() {
+        return None;
     }
     if !picked {
-        return Begun {
-            used,
-            stop,
-            wait: 0,
-        };
+        return None;
     }
-    if used >= list.len() / 2 {
-        return Begun {
-            used,
-            stop: at + 1,
-            wait: 0,
-        };
+    let pair = counts.used;
+    if pair >= list.len() / 2 {
+        counts.stop = Some(at);
+        return None;
     }
-    write(list, used, 0, at);
-    Begun {
-        used: used + 1,
-        stop,
-        wait: used + 1,
-    }
+    write(list, pair, Half::First, at);
+    counts.used = pair + 1;
+    Some(pair)
 }
 
 // Writes the end of a node into the pair that waits for it, if one does.
-pub fn finish(list: &mut [u32], wait: usize, end: usize)
+pub fn finish(list: &mut [u32], wait: Option<usize>, end: usize)
     requires { end ≤ max_bytes }
-    ensures { list.new ≡ end_pair wait end list.old }
+    ensures { list.new ≡ end_pair (plus_one wait) end list.old }
 {
-    if wait == 0 {
-        return;
+    if let Some(pair) = wait {
+        write(list, pair, Half::End, end);
     }
-    write(list, wait - 1, 1, end);
 }
 
-// The most frames so far, where a container with these frames is met. Nothing changes after a stop.
-pub fn raise(peak: usize, frames: usize, stop: usize) -> usize
-    ensures { Raises peak frames stop result }
+// Counts the frames where a container with so many is met. Nothing changes after a stop.
+pub fn raise(counts: &mut Counts, frames: usize)
+    ensures { Raises counts.old frames counts.new }
 {
-    if stop != 0 {
-        return peak;
+    if counts.stop.is_none() {
+        counts.peak = counts.peak.max(frames);
     }
-    if peak < frames { frames } else { peak }
 }

@@ -1,3 +1,3 @@
-pub mod Answered
+pub mod Answering
 pub mod Labels
 pub mod Turns

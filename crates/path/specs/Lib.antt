@@ -1,3 +1,4 @@
+pub mod Answered
 pub mod HeldLaws
 pub mod Measured
 pub mod Reached

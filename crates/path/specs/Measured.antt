@@ -1,41 +1,45 @@
--- What is known of a path before it is written: of the label in one slot, and of all that stand in the slots from `low` on to the last one.
-use Rattle.std.specs.Prelude.{◌≡◌, List, ◌∷◌, Bool, true, false, ℕ, ◌+◌, ◌-◌, ◌*◌, ◌≤◌, length}
+-- What is known of a path before it is written: of the label of one link, and of all of them.
+use Rattle.std.specs.Prelude.{◌≡◌, List, ◌∷◌, ℕ, ◌+◌, ◌*◌, ◌≤◌, false, true, Result, Ok, Err, length}
 use Rattle.std.proofs.Math.Option.{Option, some, none}
-use Rattle.json_text.specs.Verdict.{max_depth, max_bytes}
-use Rattle.path.specs.Slots.{slot_text, slot_half, slots_text, slots_half, SlotsWithin}
+use Rattle.encoding.specs.declared.refusals.Ground.TheVariants.{HalfName}
+use Rattle.encoding.specs.declared.refusals.Refusal.{Refusal}
+use Rattle.encoding.specs.Refusals.{refusing}
+use Rattle.json_text.specs.Verdict.{max_bytes}
+use Rattle.seek.specs.declared.keeper.KeptLink.{KeptLink}
+use Rattle.path.specs.Slots.{slot_text, slot_half, slot_quote, slots_text, slots_half}
 
 -- no label has more bytes: in a name each byte is written as at most six, and a position has at most ten digits
 abbrev pub max_label : ℕ
 max_label = 6 * max_bytes + 12
 
--- whether the label has half of a surrogate pair, and its size
-pub record MeasuresLabel (s : List ℕ) (from to : ℕ) (half : Bool) (size : ℕ) : Type 0 where
-  pub half_is : half ≡ slot_half s from to
-  pub size_is : size ≡ length (slot_text s from to)
+-- the size of a label; or a refusal of a name with half of a surrogate pair, by its opening quote
+pub record LabelSized (s : List ℕ) (k : KeptLink) (size : ℕ) : Type 0 where
+  pub half_is : slot_half s k ≡ false
+  pub size_is : size ≡ length (slot_text s k)
   pub small : size ≤ max_label
 
-module _ (s slots : List ℕ) (low : ℕ) where
-  -- what they are written as
-  unfoldable pub labels_from : List ℕ
-  unfolding slots_text
-  labels_from = slots_text s slots low (max_depth - low)
+pub record LabelRefused (s : List ℕ) (k : KeptLink) (e : Refusal) : Type 0 where
+  pub half_is : slot_half s k ≡ true
+  pub is : e ≡ refusing HalfName (slot_quote s k)
 
-  -- and the path, with the `$` before them
-  abbrev pub path_from : List ℕ
-  path_from = 0x24 ∷ labels_from
+abbrev pub MeasuresLabel : (s : List ℕ) → KeptLink → Result ℕ Refusal → Type 0
+MeasuresLabel s k (Ok size) = LabelSized s k size
+MeasuresLabel s k (Err e) = LabelRefused s k e
 
-  -- the opening quote of the first name with half of a surrogate pair
-  unfoldable pub half_from : Option ℕ
-  unfolding slots_half
-  half_from = slots_half s slots low (max_depth - low)
+-- the path, with the `$` before its labels
+abbrev pub path_from : (s : List ℕ) → List KeptLink → List ℕ
+path_from s ks = 0x24 ∷ slots_text s ks
 
-  -- the bounds of each name lie in the record
-  pub record SlotsFrom : Type 0 where
-    pub below : low ≤ max_depth
-    pub within : SlotsWithin s slots low (max_depth - low)
+-- the size of the path, where no name has half of a surrogate pair; or a refusal of the first such name, by its opening quote
+pub record PathSized (s : List ℕ) (ks : List KeptLink) (size : ℕ) : Type 0 where
+  pub whole : slots_half s ks ≡ none
+  pub sized : size ≡ length (path_from s ks)
 
-  -- the place of the first such name, or, where there is none, the size of the path
-  pub record Measures (half : Bool) (place size : ℕ) : Type 0 where
-    pub half_at : half ≡ true → half_from ≡ some place
-    pub whole : half ≡ false → half_from ≡ none
-    pub sized : half ≡ false → size ≡ length path_from
+pub record PathRefused (s : List ℕ) (ks : List KeptLink) (e : Refusal) : Type 0 where
+  pub place : ℕ
+  pub half_at : slots_half s ks ≡ some place
+  pub is : e ≡ refusing HalfName place
+
+abbrev pub Measures : (s : List ℕ) → List KeptLink → Result ℕ Refusal → Type 0
+Measures s ks (Ok size) = PathSized s ks size
+Measures s ks (Err e) = PathRefused s ks e

@@ -1,12 +1,11 @@
 -- A decoded name is written piece by piece: each byte as its piece, and the bytes of a code point as the piece of the code point. Assumes nothing.
-use Rattle.std.specs.Prelude.{◌≡◌, refl, Bool, true, false, ℕ, ◌+◌, ◌/◌, ◌%◌, ◌<◌, ◌≤◌, ltb}
+use Rattle.std.specs.Prelude.{◌≡◌, refl, Some, None, Bool, true, false, ℕ, ◌+◌, ◌/◌, ◌%◌, ◌<◌, ◌≤◌, ltb}
 use Rattle.std.proofs.Common.{sym, ◌∙◌, arith, ltb-true, ltb-false}
 use Rattle.std.proofs.Math.Path.{ap}
 use mathlib.Core.List.{List, [], ◌∷◌, ◌++◌}
 use Rattle.encoding.specs.Points.{utf8}
-use Rattle.encoding.specs.PointsLaws.{utf8_1, utf8_2, utf8_3, utf8_4, utf8_append}
-use Rattle.paths.specs.Normalized.{Escapable, backspace, form, line, carriage, tabulator, apostrophe, backslash, escapable_byte}
-use Rattle.paths.specs.Rendered.{hex_lower_of, rendered}
+use Rattle.encoding.specs.PointsLaws.{utf8_1, utf8_2, utf8_3, utf8_4, utf8_four, utf8_append}
+use Rattle.paths.specs.Rendered.{rendered}
 use Rattle.paths.specs.RenderedLaws.{NoShort, View, short, control, plain, view, render_short, render_control, render_plain, render_high}
 use Rattle.path_names.specs.Escaped.{put_escaped}
 use Rattle.path_names.specs.Pieces.{point_piece, byte_piece, control_piece, Letter, named, nameless}
@@ -85,39 +84,25 @@ module _ (b : ℕ) where
   unfolding byte_piece
   high_piece h = render_high b (b ∷ []) [] h
 
--- the escape of a control in three parts
-pub control_parts :
-    (n : ℕ) {d : ℕ} → d ≡ hex_lower_of (n % 16) → control_piece n ≡ (0x5C ∷ 0x75 ∷ 0x30 ∷ 0x30 ∷ []) ++ (((0x30 + n / 16) ∷ []) ++ (d ∷ []))
-unfolding control_piece
-control_parts n e = rw e
-
-letter_byte : (x : Escapable) → escapable_byte x ≡ 0 → ⊥
-letter_byte backspace e = omega arith
-letter_byte form e = omega arith
-letter_byte line e = omega arith
-letter_byte carriage e = omega arith
-letter_byte tabulator e = omega arith
-letter_byte apostrophe e = omega arith
-letter_byte backslash e = omega arith
-
-no_letter : {n r : ℕ} → Letter n r → r ≡ 0 → NoShort n
-no_letter (named x e) z = absurd (letter_byte x z)
-no_letter (nameless f) z = f
-
 -- the piece of a code point by its letter
-module _ {n r : ℕ} (l : Letter n r) where
-  pub letter_piece : (r ≡ 0 → ⊥) → point_piece n ≡ 0x5C ∷ r ∷ []
-  unfolding point_piece
-  letter_piece f = go l f
+pub letter_piece : {n r : ℕ} → Letter n (Some r) → point_piece n ≡ 0x5C ∷ r ∷ []
+unfolding point_piece
+letter_piece {n} (named x e) = ap (λ (m : ℕ). rendered m (utf8 n []) []) e ∙ render_short (utf8 n []) [] x
+
+module _ {n : ℕ} (l : Letter n None) where
+  no_letter : NoShort n
+  no_letter = go l
     where
-      go : {r : ℕ} → Letter n r → (r ≡ 0 → ⊥) → rendered n (utf8 n []) [] ≡ 0x5C ∷ r ∷ []
-      go (named x e) f = ap (λ (m : ℕ). rendered m (utf8 n []) []) e ∙ render_short (utf8 n []) [] x
-      go (nameless g) f = absurd (f refl)
+      go : Letter n None → NoShort n
+      go (nameless f) = f
 
-  pub control_piece_lem : r ≡ 0 → n < 0x20 → point_piece n ≡ control_piece n
+  pub control_piece_lem : n < 0x20 → point_piece n ≡ control_piece n
   unfolding point_piece control_piece
-  control_piece_lem z h = render_control (utf8 n []) [] n h (no_letter l z)
+  control_piece_lem h = render_control (utf8 n []) [] n h no_letter
 
-  pub plain_piece : r ≡ 0 → 0x20 ≤ n → point_piece n ≡ utf8 n []
+  pub plain_piece : 0x20 ≤ n → point_piece n ≡ utf8 n []
   unfolding point_piece
-  plain_piece z h = render_plain (utf8 n []) [] n h (no_letter l z)
+  plain_piece h = render_plain (utf8 n []) [] n h no_letter
+
+-- the piece of a code point and of a byte, each in its case
+pub ruleset pieces = (letter_piece, control_piece_lem, plain_piece, same_piece, high_piece, utf8_four)

@@ -3,8 +3,6 @@
 #![tactic(auto)]
 
 ghost use Rattle.std.specs.Prelude.{◌≡◌, [], ◌*◌, ◌≤◌, ◌<◌, length};
-ghost use Rattle.std.proofs.Math.Seq.{slice};
-ghost use Rattle.encoding.specs.Points.{utf8};
 ghost use Rattle.encoding.specs.Unescape.{unescaped};
 ghost use Rattle.json_text.specs.Verdict.{max_bytes};
 ghost use Rattle.paths.specs.Answer.{is_half_of};
@@ -21,9 +19,6 @@ const SPACE: u32 = 0x20;
 
 // The bytes from this on belong to code points of several bytes.
 const SEVERAL_BYTES: u8 = 0x80;
-
-// In the place of a letter: the code point has no escape of two bytes.
-const NAMELESS: u8 = 0;
 
 // How many bytes an escape by a letter has, and one by four digits.
 const LETTER_SIZE: usize = 2;
@@ -46,36 +41,36 @@ fn is_half(point: u32) -> bool
 }
 
 // The byte behind the backslash where a code point is written as an escape of two bytes.
-fn escape_letter(point: u32) -> u8
+fn escape_letter(point: u32) -> Option<u8>
     ensures { Letter point result }
 {
     match point {
-        0x08 => b'b',
-        0x09 => b't',
-        0x0A => b'n',
-        0x0C => b'f',
-        0x0D => b'r',
-        0x27 => b'\'',
-        0x5C => b'\\',
-        _ => NAMELESS,
+        0x08 => Some(b'b'),
+        0x09 => Some(b't'),
+        0x0A => Some(b'n'),
+        0x0C => Some(b'f'),
+        0x0D => Some(b'r'),
+        0x27 => Some(b'\''),
+        0x5C => Some(b'\\'),
+        _ => None,
     }
 }
 
 // How many bytes a code point is written as in a path.
+#[tactic(auto, using(crate::specs::PiecesLaws::pieces), unfolding(crate::specs::Pieces::control_piece))]
 fn point_size(point: u32) -> usize
     requires { point < 0x110000 }
     ensures { (result ≡ length (point_piece point)) × (result ≤ 6) }
 {
-    if escape_letter(point) != NAMELESS {
-        return LETTER_SIZE;
+    match escape_letter(point) {
+        Some(_) => LETTER_SIZE,
+        None if point < SPACE => DIGITS_SIZE,
+        None => in_utf8(point).len(),
     }
-    if point < SPACE {
-        return DIGITS_SIZE;
-    }
-    in_utf8(point).size
 }
 
 // The same for a byte of a decoded name.
+#[tactic(auto, using(crate::specs::PiecesLaws::pieces))]
 fn byte_size(b: u8) -> usize
     ensures { (result ≡ length (byte_piece b)) × (result ≤ 6) }
 {
@@ -85,32 +80,32 @@ fn byte_size(b: u8) -> usize
     1
 }
 
-// How many bytes a name has in a path, and whether half of a surrogate pair is among its code points.
+// How many bytes a name has in a path, and whether half of a surrogate pair is among its code points. Either is promised of any name.
 #[derive(Drop)]
 pub struct NameSize {
     pub half: bool,
     pub size: usize,
 }
 
-// The size of the record's name from `from` to `to`, once its escapes are decoded.
-pub fn name_size(record: &[u8], from: usize, to: usize) -> NameSize
-    requires { (from ≤ to) × (to ≤ length «record».now) × (length «record».now ≤ max_bytes) }
-    ensures half_value { result.half ≡ half_escaped (slice from to «record».now) }
-    ensures size_value { result.size ≡ length (put_escaped (unescaped (slice from to «record».now)) []) }
+// The size of a record's name, once its escapes are decoded.
+pub fn name_size(name: &[u8]) -> NameSize
+    requires { length name.now ≤ max_bytes }
+    ensures half_value { result.half ≡ half_escaped name.now }
+    ensures size_value { result.size ≡ length (put_escaped (unescaped name.now) []) }
     ensures size_bound { result.size ≤ 6 * max_bytes }
 {
     let mut half = false;
     let mut size: usize = 0;
-    let mut i = from;
-    while i < to {
-        let written = record[i];
-        if written == BACKSLASH {
-            let e = escape_at(record, i, to);
+    let mut i = 0;
+    while i < name.len() {
+        let b = name[i];
+        if b == BACKSLASH {
+            let e = escape_at(&name[i..]);
             half |= is_half(e.point);
             size += point_size(e.point);
             i += e.size;
         } else {
-            size += byte_size(written);
+            size += byte_size(b);
             i += 1;
         }
     }
@@ -118,6 +113,7 @@ pub fn name_size(record: &[u8], from: usize, to: usize) -> NameSize
 }
 
 // A hexadecimal digit in lower case.
+#[tactic(auto, unfolding(paths::specs::Rendered::hex_lower_of))]
 fn hex_lower(digit: u8) -> u8
     requires { digit < 16 }
     ensures { result ≡ hex_lower_of digit }
@@ -131,55 +127,30 @@ fn hex_lower(digit: u8) -> u8
 // Each function below writes into `out` from `at` on, and gives the place after what it wrote.
 
 // Writes a control by its number in four digits.
+#[tactic(auto, unfolding(crate::specs::Pieces::control_piece))]
 fn write_control(out: &mut [u8], at: usize, point: u8) -> usize
     requires { (point < 0x20) × Room (control_piece point) at out.old }
     ensures { Written (control_piece point) at out.old out.new result }
 {
-    let last = hex_lower(point % 16);
-    let third = write_word(out, at, b"\\u00");
-    let fourth = write_byte(out, third, b'0' + point / 16);
-    write_byte(out, fourth, last)
-}
-
-// Writes a code point in UTF-8.
-fn write_utf8(out: &mut [u8], at: usize, point: u32) -> usize
-    requires { (point < 0x110000) × Room (utf8 point []) at out.old }
-    ensures { Written (utf8 point []) at out.old out.new result }
-{
-    let code = in_utf8(point);
-    let size = code.size;
-    let second = write_byte(out, at, code.first);
-    if size == 1 {
-        return second;
-    }
-    let third = write_byte(out, second, code.second);
-    if size == 2 {
-        return third;
-    }
-    let fourth = write_byte(out, third, code.third);
-    if size == 3 {
-        return fourth;
-    }
-    write_byte(out, fourth, code.fourth)
+    let (third, last) = (b'0' + point / 16, hex_lower(point % 16));
+    write_word(out, at, &[b'\\', b'u', b'0', b'0', third, last])
 }
 
 // Writes a code point as it stands in a path.
+#[tactic(auto, using(crate::specs::PiecesLaws::pieces))]
 fn write_point(out: &mut [u8], at: usize, point: u32) -> usize
     requires { (point < 0x110000) × Room (point_piece point) at out.old }
     ensures { Written (point_piece point) at out.old out.new result }
 {
-    let letter = escape_letter(point);
-    if letter != NAMELESS {
-        let behind = write_byte(out, at, BACKSLASH);
-        return write_byte(out, behind, letter);
+    match escape_letter(point) {
+        Some(letter) => write_word(out, at, &[BACKSLASH, letter]),
+        None if point < SPACE => write_control(out, at, point as u8),
+        None => write_word(out, at, in_utf8(point).as_bytes()),
     }
-    if point < SPACE {
-        return write_control(out, at, point as u8);
-    }
-    write_utf8(out, at, point)
 }
 
 // Writes a byte of a decoded name as it stands in a path.
+#[tactic(auto, using(crate::specs::PiecesLaws::pieces))]
 fn write_rendered_byte(out: &mut [u8], at: usize, b: u8) -> usize
     requires { Room (byte_piece b) at out.old }
     ensures { Written (byte_piece b) at out.old out.new result }
@@ -190,18 +161,17 @@ fn write_rendered_byte(out: &mut [u8], at: usize, b: u8) -> usize
     write_byte(out, at, b)
 }
 
-// Writes the record's name from `from` to `to`, once its escapes are decoded.
-pub fn write_name(record: &[u8], from: usize, to: usize, out: &mut [u8], at: usize) -> usize
-    requires from_le_to { (from ≤ to) × (to ≤ length «record».now) }
-    requires room { Room (put_escaped (unescaped (slice from to «record».now)) []) at out.old }
-    ensures { Written (put_escaped (unescaped (slice from to «record».now)) []) at out.old out.new result }
+// Writes a record's name, once its escapes are decoded.
+pub fn write_name(name: &[u8], out: &mut [u8], at: usize) -> usize
+    requires { Room (put_escaped (unescaped name.now) []) at out.old }
+    ensures { Written (put_escaped (unescaped name.now) []) at out.old out.new result }
 {
     let mut end = at;
-    let mut i = from;
-    while i < to {
-        let b = record[i];
+    let mut i = 0;
+    while i < name.len() {
+        let b = name[i];
         if b == BACKSLASH {
-            let e = escape_at(record, i, to);
+            let e = escape_at(&name[i..]);
             end = write_point(out, end, e.point);
             i += e.size;
         } else {

@@ -3,12 +3,13 @@ use Rattle.std.specs.Prelude.{◌≡◌, ℕ, ◌+◌, ◌<◌, ◌≤◌, true,
 use Rattle.json_text.specs.Verdict.{max_depth}
 use Rattle.query.specs.Steps.{Step}
 use Rattle.automaton.specs.Tally.{Tally}
-use Rattle.pairs.specs.Pairs.{tally}
-use Rattle.pile.specs.Pile.{Pile, ValuePassed, ItemDue, ValueDue}
+use Rattle.pairs.specs.Pairs.{tally_of}
+use Rattle.pile.specs.declared.Pile.{Pile}
+use Rattle.pile.specs.Pile.{ValuePassed, ItemDue, ValueDue}
 use Rattle.pile.specs.declared.Standing.{Standing}
 
 abbrev pub tally_at : List ℕ → Standing → Tally
-tally_at list a = tally list a.used a.peak a.stop
+tally_at list a = tally_of list a.counts
 
 -- what is ahead at a place: the root, an item of the innermost container, or what follows a value that has been passed
 pub record Due (x : List Step) (s : List ℕ) (whole : Tally) (z : Pile) (list : List ℕ) (a : Standing) : Type 0 where

@@ -1,15 +1,17 @@
 -- Where the moves lead, and what is ahead after them. Assumes nothing.
-use Rattle.std.specs.Prelude.{◌≡◌, ℕ, ◌+◌, ◌<◌, ◌≤◌, false, List, refl}
+use Rattle.std.specs.Prelude.{◌≡◌, Option, ℕ, ◌+◌, ◌<◌, ◌≤◌, false, List, refl}
 use Rattle.std.proofs.lemmas.Bool.{false≢true}
 use Rattle.std.proofs.Common.{true≢false, arith}
 use Rattle.json_text.specs.Verdict.{max_depth}
 use Rattle.query.specs.Steps.{Step}
 use Rattle.automaton.specs.Tally.{Tally}
 use Rattle.automaton.specs.Halves.{finish}
-use Rattle.pile.specs.Pile.{Pile, kept, ValuePassed, ItemDue}
+use Rattle.pairs.specs.Pairs.{plus_one}
+use Rattle.pile.specs.declared.Pile.{Pile}
+use Rattle.pile.specs.Pile.{kept, ValuePassed, ItemDue}
 use Rattle.pile.specs.Moves.{Lost, PassedTo, EnteredAt}
 use Rattle.pile.specs.Due.{tally_at, Due, Onward}
-use Rattle.pile.specs.declared.Coming.{Coming}
+use Rattle.walk.specs.declared.Coming.{Coming}
 use Rattle.pile.specs.declared.Standing.{Standing}
 
 -- where the steps lead
@@ -26,7 +28,7 @@ onward_lost y h g k =
       few = k;
     })
 
-pub onward_passed : {n i e w : ℕ} {l l' : List ℕ} {a r : Standing} → PassedTo l l' w e a r → i ≤ e → e ≤ n → a.depth ≤ max_depth
+pub onward_passed : {n i e : ℕ} {w : Option ℕ} {l l' : List ℕ} {a r : Standing} → PassedTo l l' w e a r → i ≤ e → e ≤ n → a.depth ≤ max_depth
     → a.frames ≤ max_depth → Onward n i r
 onward_passed y h g k j =
     rw y.is
@@ -43,17 +45,17 @@ onward_passed y h g k j =
 pub lost_farther : {i : ℕ} {a r : Standing} → Lost i a r → i < r.at
 lost_farther y = rw y.is (omega arith)
 
-pub passed_farther : {i e w : ℕ} {l l' : List ℕ} {a r : Standing} → PassedTo l l' w e a r → i < e → i < r.at
+pub passed_farther : {i e : ℕ} {w : Option ℕ} {l l' : List ℕ} {a r : Standing} → PassedTo l l' w e a r → i < e → i < r.at
 passed_farther y h = rw y.is h
 
 -- no item is ahead then
 pub lost_item : {i : ℕ} {a r : Standing} → Lost i a r → r.item ≡ false
 lost_item y = rw y.is
 
-pub passed_item : {e w : ℕ} {l l' : List ℕ} {a r : Standing} → PassedTo l l' w e a r → r.item ≡ false
+pub passed_item : {e : ℕ} {w : Option ℕ} {l l' : List ℕ} {a r : Standing} → PassedTo l l' w e a r → r.item ≡ false
 passed_item y = rw y.is
 
-pub onward_entered : {n b c w f : ℕ} {z z' : Pile} {v : Coming} {a r : Standing} → EnteredAt z z' b c w f v a r → v.at < c → c ≤ n
+pub onward_entered : {n b c f : ℕ} {w : Option ℕ} {z z' : Pile} {v : Coming} {a r : Standing} → EnteredAt z z' b c w f v a r → v.at < c → c ≤ n
     → a.depth < max_depth → f ≤ max_depth → Onward n v.at r
 onward_entered y g h k e =
     rw y.is
@@ -69,14 +71,14 @@ onward_entered y g h k e =
 
 module _ {x : List Step} {s : List ℕ} {whole : Tally} where
   -- a value has been passed
-  pub due_passed : {z : Pile} {l l' : List ℕ} {w e : ℕ} {a r : Standing} → PassedTo l l' w e a r
-      → ValuePassed x s whole z e (finish w e (tally_at l a)) a.depth a.frames a.marks → Due x s whole z l' r
+  pub due_passed : {z : Pile} {l l' : List ℕ} {w : Option ℕ} {e : ℕ} {a r : Standing} → PassedTo l l' w e a r
+      → ValuePassed x s whole z e (finish (plus_one w) e (tally_at l a)) a.depth a.frames a.marks → Due x s whole z l' r
   unfolding finish
   due_passed y p =
       rw (y.is, y.list_is) (record { root = λ e. absurd (false≢true e); item = λ e. absurd (false≢true e); passed = λ e. p })
 
   -- a container has been entered
-  pub due_entered : {z z' : Pile} {l : List ℕ} {b c w f : ℕ} {v : Coming} {a r : Standing} → EnteredAt z z' b c w f v a r
+  pub due_entered : {z z' : Pile} {l : List ℕ} {b c f : ℕ} {w : Option ℕ} {v : Coming} {a r : Standing} → EnteredAt z z' b c w f v a r
       → ItemDue x s whole (kept z a.frames a.depth a.marks w b) c (tally_at l a) (a.depth + 1) f v.marks → Due x s whole z' l r
   due_entered y p =
       rw (y.is, y.pile_is) (record { root = λ e g. absurd (omega arith); item = λ e g. p; passed = λ e. absurd (true≢false e) })

@@ -1,44 +1,59 @@
 // Where the jumping walk stands, and the pile: a frame for each open container whose marks differ from those around it.
 #![tactic(auto)]
 
-ghost use Rattle.std.specs.Prelude.{◌≡◌, ◌<◌, ◌≤◌, slice_set};
+ghost use Rattle.std.specs.Prelude.{◌≡◌, ◌<◌, ◌≤◌};
 ghost use Rattle.json_text.specs.Verdict.{max_bytes, max_depth};
 ghost use Rattle.pile.specs.FrameDepth.{narrowed, widened};
-ghost use Rattle.pile.specs.Pile.{pile};
-ghost use Rattle.pile.specs.Moves.{Pops, CountsOn, Lost, PassedTo, EnteredAt, Skipped};
+ghost use Rattle.pile.specs.Pile.{kept};
+ghost use Rattle.pile.specs.Moves.{Leaves, CountsOn, Lost, PassedTo, EnteredAt, Skipped};
 
 use json_text::MAX_DEPTH;
-use pairs::finish;
+use pairs::{Counts, finish};
+use walk::Coming;
 
 // Where the walk stands: the place; whether an item is ahead there, or else a value has been passed; how many containers are open; the
-// frames on the pile and the marks of the innermost container; the pairs used, the most frames, and one more than the first byte of the
-// first node left over, or 0. A new one is written out field by field: a copy would also move the unused bytes behind the last field.
+// frames on the pile and the marks of the innermost container; and what has been counted.
 #[derive(Clone, Copy)]
 pub struct Standing {
     pub at: usize,
     pub depth: usize,
     pub frames: usize,
-    pub used: usize,
-    pub peak: usize,
-    pub stop: usize,
+    pub counts: Counts,
     pub marks: u16,
     pub item: bool,
 }
 
-// A value that is ahead: its first byte, its marks, and whether it is picked out.
-#[derive(Drop)]
-pub struct Coming {
-    pub at: usize,
+// A frame: the depth around the container that it was pushed for, in 16 bits, and the marks around it.
+#[derive(Clone, Copy)]
+pub struct Frame {
+    pub depth: u16,
     pub marks: u16,
-    pub picked: bool,
 }
 
-// The frames and the marks around a container that is left.
-#[derive(Drop)]
-pub struct Around {
-    pub frames: usize,
-    pub marks: u16,
+// What is kept of an open container: the pair that waits for its end, its opening bracket, and the position of its item that is ahead or in
+// which the walk stands.
+#[derive(Clone, Copy)]
+pub struct Container {
+    pub wait: Option<usize>,
+    pub count: u32,
+    pub bracket: u8,
 }
+
+// The pile: its frames, the first pushed first, and the open containers by their depth.
+#[derive(Drop)]
+pub struct Pile {
+    pub frames: [Frame; MAX_DEPTH],
+    pub containers: [Container; MAX_DEPTH],
+}
+
+// A slot of the pile in which nothing has been kept.
+pub const NO_FRAME: Frame = Frame { depth: 0, marks: 0 };
+
+pub const NO_CONTAINER: Container = Container {
+    wait: None,
+    count: 0,
+    bracket: 0,
+};
 
 // A depth in 16 bits, as a frame holds it. Every depth of a record comes back from `widen_depth` unchanged.
 fn narrow_depth(depth: usize) -> u16
@@ -55,155 +70,104 @@ fn widen_depth(level: u16) -> usize
     level as usize
 }
 
-// Keeps the depth and the marks around a container in the slot after the topmost frame. The slot counts once there is one frame more.
-fn push_frame(
-    levels: &mut [u16; MAX_DEPTH],
-    held: &mut [u16; MAX_DEPTH],
-    frames: usize,
-    depth: usize,
-    marks: u16,
-)
-    requires { (frames < max_depth) × (depth ≤ max_depth) }
-    ensures levels_after { levels.new ≡ slice_set levels.old frames (narrowed depth) }
-    ensures held_after { held.new ≡ slice_set held.old frames marks }
-{
-    levels[frames] = narrow_depth(depth);
-    held[frames] = marks;
-}
+impl Pile {
+    // Keeps the depth and the marks around a container in the slot after the topmost frame, which counts once there is one frame more; and, at
+    // the container's depth, the pair that waits for its end and its bracket: the first of its items is at position 0.
+    fn push(&mut self, frames: usize, depth: usize, marks: u16, wait: Option<usize>, bracket: u8)
+        requires { (frames < max_depth) × (depth < max_depth) }
+        ensures { self.new ≡ kept self.old frames depth marks wait bracket }
+    {
+        self.frames[frames] = Frame {
+            depth: narrow_depth(depth),
+            marks,
+        };
+        self.containers[depth] = Container {
+            wait,
+            count: 0,
+            bracket,
+        };
+    }
 
-// The frames and the marks around a container that is left: what the topmost frame held if it is the container's, and else the same.
-pub fn pop_frame(
-    levels: &[u16; MAX_DEPTH],
-    held: &[u16; MAX_DEPTH],
-    frames: usize,
-    depth: usize,
-    marks: u16,
-) -> Around
-    requires { frames ≤ max_depth }
-    ensures { Pops levels.now held.now frames depth marks result.frames result.marks }
-{
-    if frames == 0 {
-        return Around { frames, marks };
-    }
-    let top = frames - 1;
-    let level = widen_depth(levels[top]);
-    if level != depth {
-        return Around { frames, marks };
-    }
-    let around = held[top];
-    Around {
-        frames: top,
-        marks: around,
+    // Counts one item more of the container at a depth.
+    pub fn count_item(&mut self, depth: usize)
+        requires { depth < max_depth }
+        ensures { CountsOn self.old depth self.new }
+    {
+        let mut container = self.containers[depth];
+        container.count = container.count.wrapping_add(1);
+        self.containers[depth] = container;
     }
 }
 
-// Keeps, at the depth of a container, the pair that waits for its end and its bracket; the first of its items is at position 0.
-fn push_level(
-    waits: &mut [usize; MAX_DEPTH],
-    brackets: &mut [u8; MAX_DEPTH],
-    counts: &mut [u32; MAX_DEPTH],
-    depth: usize,
-    wait: usize,
-    bracket: u8,
-)
-    requires { depth < max_depth }
-    ensures waits_after { waits.new ≡ slice_set waits.old depth wait }
-    ensures brackets_after { brackets.new ≡ slice_set brackets.old depth bracket }
-    ensures counts_after { counts.new ≡ slice_set counts.old depth 0 }
-{
-    waits[depth] = wait;
-    brackets[depth] = bracket;
-    counts[depth] = 0;
-}
-
-// Counts one item more of the container at a depth.
-pub fn count_item(counts: &mut [u32; MAX_DEPTH], depth: usize)
-    requires { depth < max_depth }
-    ensures { CountsOn counts.old depth counts.new }
-{
-    counts[depth] = std::num::wrapping_add_u32(counts[depth], 1);
-}
-
-// The end of the walk at bytes that no tree explains.
-pub fn lost(a: Standing, at: usize) -> Standing
-    requires { at ≤ max_bytes }
-    ensures { Lost at a result }
-{
-    Standing {
-        at: at + 1,
-        item: false,
-        depth: 0,
-        frames: a.frames,
-        marks: a.marks,
-        used: a.used,
-        peak: a.peak,
-        stop: a.stop,
+impl Standing {
+    // Out of the innermost container: the frames and the marks around it are what the topmost frame holds, if it is the container's, and else
+    // the same.
+    pub fn leave(&mut self, pile: &Pile)
+        requires { (1 ≤ self.old.depth) × (self.old.frames ≤ max_depth) }
+        ensures { Leaves pile.now self.old self.new }
+    {
+        self.depth -= 1;
+        if self.frames == 0 {
+            return;
+        }
+        let top = self.frames - 1;
+        let frame = pile.frames[top];
+        let level = widen_depth(frame.depth);
+        if level != self.depth {
+            return;
+        }
+        self.frames = top;
+        self.marks = frame.marks;
     }
-}
 
-// Past a value that ends at `end`, which goes into the pair that waits for it.
-pub fn pass(list: &mut [u32], wait: usize, end: usize, a: Standing) -> Standing
-    requires { end ≤ max_bytes }
-    ensures { PassedTo list.old list.new wait end a result }
-{
-    finish(list, wait, end);
-    Standing {
-        at: end,
-        item: false,
-        depth: a.depth,
-        frames: a.frames,
-        marks: a.marks,
-        used: a.used,
-        peak: a.peak,
-        stop: a.stop,
+    // The end of the walk at bytes that no tree explains.
+    pub fn lose(&mut self, at: usize)
+        requires { at ≤ max_bytes }
+        ensures { Lost at self.old self.new }
+    {
+        self.at = at + 1;
+        self.item = false;
+        self.depth = 0;
+    }
+
+    // Past a value that ends at `end`, which goes into the pair that waits for it.
+    pub fn pass(&mut self, list: &mut [u32], wait: Option<usize>, end: usize)
+        requires { end ≤ max_bytes }
+        ensures { PassedTo list.old list.new wait end self.old self.new }
+    {
+        finish(list, wait, end);
+        self.at = end;
+        self.item = false;
+    }
+
+    // Enters the container ahead, up to its first item at `first`, with so many frames, and keeps what is needed when it is left.
+    pub fn enter(
+        &mut self,
+        pile: &mut Pile,
+        bracket: u8,
+        first: usize,
+        v: Coming,
+        wait: Option<usize>,
+        frames: usize,
+    )
+        requires { (self.old.frames < max_depth) × (self.old.depth < max_depth) }
+        ensures { EnteredAt pile.old pile.new bracket first wait frames v self.old self.new }
+    {
+        pile.push(self.frames, self.depth, self.marks, wait, bracket);
+        self.at = first;
+        self.item = true;
+        self.depth += 1;
+        self.frames = frames;
+        self.marks = v.marks;
     }
 }
 
 // Whether a container with these marks is passed without a look inside: exactly if it has none, or the list was full.
-pub fn is_dead(marks: u16, stop: usize) -> bool
+pub fn is_dead(marks: u16, stop: Option<usize>) -> bool
     ensures { Skipped marks stop result }
 {
-    if stop != 0 {
+    if stop.is_some() {
         return true;
     }
-    if marks != 0 {
-        return false;
-    }
-    true
-}
-
-// Enters the container ahead, up to its first item at `first`, and keeps what is needed when it is left.
-pub fn enter(
-    bracket: u8,
-    first: usize,
-    v: Coming,
-    wait: usize,
-    frames: usize,
-    a: Standing,
-    levels: &mut [u16; MAX_DEPTH],
-    held: &mut [u16; MAX_DEPTH],
-    waits: &mut [usize; MAX_DEPTH],
-    brackets: &mut [u8; MAX_DEPTH],
-    counts: &mut [u32; MAX_DEPTH],
-) -> Standing
-    requires { (a.frames < max_depth) × (a.depth < max_depth) }
-    ensures { EnteredAt
-        (pile levels.old held.old waits.old brackets.old counts.old)
-        (pile levels.new held.new waits.new brackets.new counts.new)
-        bracket first wait frames v a result }
-{
-    let depth = a.depth;
-    push_frame(levels, held, a.frames, depth, a.marks);
-    push_level(waits, brackets, counts, depth, wait, bracket);
-    let inner = depth + 1;
-    Standing {
-        at: first,
-        item: true,
-        depth: inner,
-        frames,
-        marks: v.marks,
-        used: a.used,
-        peak: a.peak,
-        stop: a.stop,
-    }
+    marks == 0
 }

@@ -1,5 +1,6 @@
 -- The steps of the plain walk, each in terms of what its parts promise: a value is a scalar or a container, and a container's items come
 -- one after the other, each with the tally and the place at which the one before it ended. Assumes nothing.
+use Rattle.std.specs.Prelude.{Option}
 use mathlib.Core.Path.{◌≡◌, refl, sym, ap, ap₂, ◌∙◌}
 use mathlib.Core.List.{List, [], ◌∷◌}
 use mathlib.Core.Bool.{Bool, true, false, false≢true}
@@ -7,7 +8,6 @@ use Prim.Native.Nat.{ℕ, ◌+◌, ◌-◌, ◌≤◌, ◌<◌}
 use native.Mathlib.Omega.{arith}
 use lib.Dec.{eqb}
 use lib.ListN.{length, drop, get_or, length-drop}
-use lib.Seq.{slice}
 use Rattle.encoding.specs.Bytes.{put_blanks}
 use Rattle.encoding.specs.Class.{class_of}
 use Rattle.json_text.specs.Grammar.{Kind, put_key, put_value, put_more, text}
@@ -19,19 +19,20 @@ use Rattle.select.specs.Nodes.{Label, size, root, label_of}
 use Rattle.select.specs.Visits.{visits, node_visits}
 use Rattle.select.specs.Ways.{frame_if}
 use Rattle.scan.specs.Places.{same_place, past_blanks, past_key}
-use Rattle.scan.specs.Scans.{EndsBlanks, EndsScalar, EntersItem, kind_if}
+use Rattle.scan.specs.Scans.{EndsBlanks, EndsScalar, kind_if}
 use Rattle.scan.specs.Shape.{starts}
 use Rattle.scan.specs.ShapeLaws.{solid_value, starts_value, stopped_end}
 use Rattle.automaton.specs.Start.{start_none, start_some}
 use Rattle.automaton.specs.State.{State, next, start}
 use Rattle.automaton.specs.Tally.{Tally, raised, tallied, fresh}
 use Rattle.automaton.specs.Halves.{end_pair, finish, waiting, begin}
-use Rattle.marks.specs.Advances.{Advances}
-use Rattle.pairs.specs.Pairs.{tally, Begins, Raises}
+use Rattle.pairs.specs.declared.Counts.{Counts}
+use Rattle.pairs.specs.Pairs.{tally, tally_of, plus_one, Begins, Raises}
 use Rattle.walk.specs.Ahead.{value_at, ItemAhead, MoreAhead, ItemsAhead, ValueAhead}
 use Rattle.walk.specs.AheadLaws.{items_inside, no_items, first_item_lem, item_value, value_here, value_inside as item_inside}
 use Rattle.walk.specs.AheadLaws.{value_stopped, key_solid, item_passed, more_inside, no_more, next_item_lem}
-use Rattle.walk.specs.Labels.{LabelBy, label_is}
+use Rattle.walk.specs.Enters as W
+use Rattle.walk.specs.declared.Coming.{Coming}
 use Rattle.walk.specs.ValueLaws.{scalar_passed, container_entered}
 use Rattle.walk.specs.Walks.{Walks}
 use Rattle.plain.specs.Plain.{RootState, EntersChild, WalksValue, WalksItems}
@@ -55,19 +56,17 @@ unfolding frame_if
 frame_more true k = omega arith
 frame_more false k = omega arith
 
-pub enters_child : {names : List ℕ} {kinds : Kinds} {ops s : List ℕ} {a : ℕ} {o : Bool} {j : ℕ} {st : State} {v x y m : ℕ} {p escaped : Bool}
-    {k : ℕ} → EntersItem s a o v x y escaped → ((l : Label) → LabelBy (slice x y s) j o l → Advances names kinds ops st.marks l m p)
-    → k ≡ frame_if (eqb st.marks m) st.frames → EntersChild names kinds ops s a o j st v (state m p k)
+pub enters_child : {names : List ℕ} {kinds : Kinds} {ops s : List ℕ} {a : ℕ} {o : Bool} {j : ℕ} {st : State} {r : Coming} {k : ℕ}
+    → W.EntersChild names kinds ops s a o j st.marks r → k ≡ frame_if (eqb st.marks r.marks) st.frames
+    → EntersChild names kinds ops s a o j st r.at (state r.marks r.picked k)
 unfolding next
-enters_child {s = s} {o = o} {j = j} {st = st} {x = x} {y = y} {m = m} item moves framed =
+enters_child {st = st} {r = r} child framed =
     record {
-      onward = item.onward;
-      within = item.within;
-      one_more = omega (arith, frame_more (eqb st.marks m) st.frames);
+      onward = child.onward;
+      within = child.within;
+      one_more = omega (arith, frame_more (eqb st.marks r.marks) st.frames);
       exact = λ z h w key rest d f.
-          let e = item.exact w key rest d f in
-          let moved = moves (label_of (kind_if o) key j) (label_is s o key j x y e.1) in
-          (e.0, rw (framed, ← moved.marks_are z h, ← moved.picked_is z h));
+          let e = child.exact w key rest d f in (e.0, rw (framed, ← e.1.marks_are z h, ← e.1.picked_is z h));
     }
 
 -- a value that is ahead has a first byte
@@ -91,9 +90,9 @@ item_value_is next' s rest k st n goal end i j t x =
     ∙ sym (past_key s (i + length x.w) k x.key u (past_blanks s i x.w (put_key k x.key u) x.here)))
 
 -- the end goes into the pair that waits
-ended : {w wait : ℕ} (e : ℕ) (l : List ℕ) {l' : List ℕ} {u h p : ℕ} → w ≡ wait → l' ≡ end_pair wait e l → tally l' u h p ≡ finish w e (tally l u h p)
+ended : {w wait : ℕ} (e : ℕ) (l : List ℕ) (c : Counts) {l' : List ℕ} → w ≡ wait → l' ≡ end_pair wait e l → tally_of l' c ≡ finish w e (tally_of l c)
 unfolding finish
-ended e l {u = u} {h = h} {p = p} x y = ap (λ (z : List ℕ). tally z u h p) (y ∙ ap (λ (k : ℕ). end_pair k e l) (sym x))
+ended e l c x y = ap (λ (z : List ℕ). tally_of z c) (y ∙ ap (λ (k : ℕ). end_pair k e l) (sym x))
 
 -- a query's names, kinds and ops, a record s, and a value at a, with the state st and n levels that may be opened
 module _ {names : List ℕ} {kinds : Kinds} {ops s : List ℕ} {a n : ℕ} {st : State} where
@@ -108,36 +107,34 @@ module _ {names : List ℕ} {kinds : Kinds} {ops s : List ℕ} {a n : ℕ} {st :
         exact = λ x g rest goal end v. absurd (omega (arith, (container_entered (next x) s rest st n goal end a t v f).levels));
       }
 
-  module _ {list list' : List ℕ} {used used' peak stop stop' wait : ℕ} (begun : Begins st.picked list used stop a list' used' stop' wait) where
-    pub value_scalar : {last : List ℕ} {e : ℕ} → (class_of (get_or s a 0) ≡ 1 → ⊥) → EndsScalar s a e → last ≡ end_pair wait e list'
-        → WalksValue names kinds ops s a n st (tally list used peak stop) (tally last used' peak stop') e
+  module _ {list list' : List ℕ} {c c' : Counts} {wait : Option ℕ} (begun : Begins st.picked list c a list' c' wait) where
+    pub value_scalar : {last : List ℕ} {e : ℕ} → (class_of (get_or s a 0) ≡ 1 → ⊥) → EndsScalar s a e → last ≡ end_pair (plus_one wait) e list'
+        → WalksValue names kinds ops s a n st (tally_of list c) (tally_of last c') e
     value_scalar {e = e} f h d =
-        let t : Tally = tally list used peak stop in
+        let t : Tally = tally_of list c in
         record {
           onward = h.onward;
           within = h.within;
           exact = λ x g rest goal end v.
               let y = scalar_passed (next x) s rest st n goal end a t v e f h in
-              (ended e list' (begun.waits peak) d ∙ ap (finish (waiting st.picked t) e) (sym (begun.begun peak)) ∙ y.0, y.1);
+              (ended e list' c' begun.waits d ∙ ap (finish (waiting st.picked t) e) (sym begun.begun) ∙ y.0, y.1);
         }
 
-    pub value_container : {peak' used'' peak'' stop'' : ℕ} {list'' last : List ℕ} {e : ℕ} → class_of (get_or s a 0) ≡ 1
-        → Raises peak st.frames stop' peak'
-        → WalksItems names kinds ops s (a + 1) (n - 1) (eqb (get_or s a 0) 0x7B) st (tally list' used' peak' stop') (tally list'' used'' peak'' stop'') e
-        → last ≡ end_pair wait e list''
-        → WalksValue names kinds ops s a n st (tally list used peak stop) (tally last used'' peak'' stop'') e
-    value_container {peak' = peak'} {list'' = list''} {e = e} f r h d =
-        let t : Tally = tally list used peak stop in
+    pub value_container : {raise : Counts} (below : Counts) {list'' last : List ℕ} {e : ℕ} → class_of (get_or s a 0) ≡ 1 → Raises c' st.frames raise
+        → WalksItems names kinds ops s (a + 1) (n - 1) (eqb (get_or s a 0) 0x7B) st (tally_of list' raise) (tally_of list'' below) e
+        → last ≡ end_pair (plus_one wait) e list''
+        → WalksValue names kinds ops s a n st (tally_of list c) (tally_of last below) e
+    value_container {raise} below {list''} {e = e} f r h d =
+        let t : Tally = tally_of list c in
         record {
           onward = omega (arith, h.onward);
           within = h.within;
           exact = λ x g rest goal end v.
               let y = container_entered (next x) s rest st n goal end a t v f in
-              let z : raised st.frames (begin st.picked t a) ≡ tally list' used' peak' stop' =
-              ap (raised st.frames) (begun.begun peak) ∙ r.raises list' used' in
+              let z : raised st.frames (begin st.picked t a) ≡ tally_of list' raise = ap (raised st.frames) begun.begun ∙ r.raises list' in
               let i = h.exact x g rest y.inner end (rw z at y.ahead) in
               let finished = ap₂ (λ (b : ℕ) (w : Tally). finish (waiting st.picked t) b w) i.1 i.0 in
-              (ended e list'' (begun.waits peak) d ∙ finished ∙ y.closes, i.1);
+              (ended e list'' below begun.waits d ∙ finished ∙ y.closes, i.1);
         }
 
 -- a query's names, kinds and ops, a record s, and the items of a container from a on, with its state st and n levels that may be opened
@@ -246,9 +243,9 @@ module _ {names : List ℕ} {kinds : Kinds} {ops s : List ℕ} {a n : ℕ} {o : 
       }
 
 -- the root stands after the blanks before it, with the state that a walk starts with
-pub walks_root : {names : List ℕ} {kinds : Kinds} {ops s list after : List ℕ} {a e used peak stop : ℕ} {st : State} → EndsBlanks s 0 a
-    → RootState kinds.count st → WalksValue names kinds ops s a max_depth st (tally list 0 0 0) (tally after used peak stop) e
-    → Walks names kinds ops s list after used peak stop
+pub walks_root : {names : List ℕ} {kinds : Kinds} {ops s list after : List ℕ} {a e : ℕ} {c : Counts} {st : State} → EndsBlanks s 0 a
+    → RootState kinds.count st → WalksValue names kinds ops s a max_depth st (tally list 0 0 0) (tally_of after c) e
+    → Walks names kinds ops s list after c
 unfolding text root node_visits fresh
 walks_root {s = s} {list = list} {a = a} b r w =
     record {

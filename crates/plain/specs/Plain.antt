@@ -10,17 +10,12 @@ use Rattle.scan.specs.Scans.{kind_if}
 use Rattle.scan.specs.Shape.{solid}
 use Rattle.automaton.specs.State.{State, next, start}
 use Rattle.automaton.specs.Tally.{Tally}
-use Rattle.pairs.specs.Pairs.{tally}
 use Rattle.walk.specs.Ahead.{value_at, ItemsAhead, ValueAhead}
-use Rattle.pairs.specs.declared.Counts.{Counts}
 use Rattle.plain.specs.declared.State.{State as Carried}
 
--- a state, and a tally, by the parts that a walk carries
+-- a state by the parts that a walk carries
 abbrev pub state_of : Carried → State
 state_of x = record { marks = x.marks; picked = x.picked; frames = x.frames }
-
-abbrev pub tally_of : List ℕ → Counts → Tally
-tally_of l x = tally l x.used x.peak x.stop
 
 -- the state at the root of a walk for a query of n steps
 pub record RootState (n : ℕ) (st : State) : Type 0 where

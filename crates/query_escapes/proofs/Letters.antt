@@ -8,6 +8,7 @@ use Prim.Native.Nat.{ℕ, ◌+◌, ◌≤◌, ◌<◌}
 use native.Mathlib.Omega.{arith}
 use lib.ListN.{length, get_or, drop}
 use types.Run.{OneOf}
+use Rattle.std.specs.Prelude.{Ok}
 use Rattle.query.specs.Escapes as E
 use Rattle.query.specs.Escapes.{Escape, escape_byte}
 use Rattle.query.specs.Grammar as G
@@ -15,7 +16,7 @@ use Rattle.query.specs.Grammar.{Quote, quote_byte, put_char}
 use Rattle.query.specs.Machine as M
 use Rattle.query.specs.Machine.{Due, in_escape, kind, low_backslash, low_u, low_d, dead, only, rules, step}
 use Rattle.query.proofs.At.{byte_is, end_at, stop_at, bad_at}
-use Rattle.query_escapes.specs.Scans.{Escaped, Part, BehindU}
+use Rattle.query_escapes.specs.Scans.{ByteAt, Escaped, Part, BehindU}
 use Rattle.query_escapes.specs.ScansLaws.{stayed, went_on, passed_on}
 use Rattle.query_escapes.proofs.Digits.{end, ◌&◌, no_rule, Leads}
 
@@ -84,36 +85,39 @@ module _ {q : List ℕ} {quote i : ℕ} where
     dead = λ e x f. end_at (in_escape kind x) q i l refl;
   }
 
-  module _ (h : i < length q) where
-    pub escaped_own : get_or q i 0 ≡ quote → Escaped q quote i true (i + 1)
+  -- by the byte there
+  module _ {b : ℕ} (here : ByteAt q i (Ok b)) where
+    pub escaped_own : b ≡ quote → Escaped q quote i true (i + 1)
     unfolding put_char
     escaped_own e = record {
-      moved = went_on h;
-      stands = λ t x f. (G.own, behind_backslash q i h (e ∙ f));
+      moved = went_on here.0;
+      stands = λ t x f. (G.own, behind_backslash q i here.0 (sym here.1 ∙ e ∙ f));
       dead = λ t. absurd (true≢false t);
     }
 
-    pub escaped_letter : OneOf letters (get_or q i 0) → Escaped q quote i true (i + 1)
+    pub escaped_letter : OneOf letters b → Escaped q quote i true (i + 1)
     unfolding put_char
     escaped_letter o =
         let (y, e) = a_letter o in
         record {
-          moved = went_on h;
-          stands = λ t x f. (G.escaped y, behind_backslash q i h e);
+          moved = went_on here.0;
+          stands = λ t x f. (G.escaped y, behind_backslash q i here.0 (sym here.1 ∙ e));
           dead = λ t. absurd (true≢false t);
         }
 
-    pub escaped_unicode : {ok : Bool} {r : ℕ} → get_or q i 0 ≡ 0x75 → Part BehindU M.first q (i + 1) ok r → Escaped q quote i ok r
+    pub escaped_unicode : {ok : Bool} {r : ℕ} → b ≡ 0x75 → Part BehindU M.first q (i + 1) ok r → Escaped q quote i ok r
     unfolding put_char
-    escaped_unicode e p = record {
-      moved = passed_on p.moved;
-      stands = λ t x f. let (y, g) = p.stands t in (G.unicode y, ap (λ (s : List ℕ). 0x5C ∷ 0x75 ∷ s) g ∙ behind_backslash q i h e);
-      dead = λ t x f. bad_at (in_escape kind x) q i h (in_escape M.first x) (leads_u x e) (p.dead t x);
-    }
+    escaped_unicode e p =
+        let w : get_or q i 0 ≡ 0x75 = sym here.1 ∙ e in
+        record {
+          moved = passed_on p.moved;
+          stands = λ t x f. let (y, g) = p.stands t in (G.unicode y, ap (λ (s : List ℕ). 0x5C ∷ 0x75 ∷ s) g ∙ behind_backslash q i here.0 w);
+          dead = λ t x f. bad_at (in_escape kind x) q i here.0 (in_escape M.first x) (leads_u x w) (p.dead t x);
+        }
 
-    pub escaped_none : (OneOf letters (get_or q i 0) → ⊥) → (get_or q i 0 ≡ 0x75 → ⊥) → (get_or q i 0 ≡ quote → ⊥) → Escaped q quote i false i
+    pub escaped_none : (OneOf letters b → ⊥) → (b ≡ 0x75 → ⊥) → (b ≡ quote → ⊥) → Escaped q quote i false i
     escaped_none f g k = record {
-      moved = stayed (omega arith);
+      moved = stayed (omega (arith, here.0));
       stands = λ e. absurd (false≢true e);
-      dead = λ e x z. stop_at (in_escape kind x) q i h (stop_kind f g x (λ y. k (y ∙ sym z)));
+      dead = λ e x z. stop_at (in_escape kind x) q i here.0 (rw (← here.1) (stop_kind f g x (λ y. k (y ∙ sym z))));
     }

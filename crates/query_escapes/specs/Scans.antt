@@ -1,5 +1,6 @@
 -- What the scan of an escape says: the character of the grammar that stands there, or the place of the dead byte; and the same of its parts.
-use Rattle.std.specs.Prelude.{◌≡◌, List, ◌∷◌, Bool, true, false, ℕ, ◌-◌, ◌≤◌, ◌<◌, length, drop}
+use Rattle.std.specs.Prelude.{◌≡◌, List, ◌∷◌, Bool, true, false, ℕ, ◌-◌, ◌≤◌, ◌<◌, Option, Some, None, Result, Ok, Err, length, get_or, drop}
+use Rattle.encoding.specs.declared.Dead.{Dead}
 use Rattle.encoding.specs.Hex.{Hex, hex_byte}
 use Rattle.query.specs.Escapes.{D, CToF, HexChar, d_byte, c_to_f_byte, put_hex_char}
 use Rattle.query.specs.Grammar.{Quote, quote_byte, Char, put_char}
@@ -17,12 +18,22 @@ pub record Escaped (q : List ℕ) (quote at : ℕ) (ok : Bool) (r : ℕ) : Type 
   pub stands : ok ≡ true → (x : Quote) → quote ≡ quote_byte x → (c : Char x) × (put_char c (drop r q) ≡ 0x5C ∷ drop at q)
   pub dead : ok ≡ false → (x : Quote) → quote ≡ quote_byte x → reading (in_escape kind x) at (drop at q) ≡ bad r
 
--- what a byte stands for as a hexadecimal digit, and 16 where it is none
-pub data HexIs (b v : ℕ) : Type 0 where
-  digit : 0x30 ≤ b → b ≤ 0x39 → v ≡ b - 0x30 → HexIs b v
-  upper : 0x41 ≤ b → b ≤ 0x46 → v ≡ b - 0x37 → HexIs b v
-  lower : 0x61 ≤ b → b ≤ 0x66 → v ≡ b - 0x57 → HexIs b v
-  none : (0x30 ≤ b → b ≤ 0x39 → ⊥) → (0x41 ≤ b → b ≤ 0x46 → ⊥) → (0x61 ≤ b → b ≤ 0x66 → ⊥) → v ≡ 16 → HexIs b v
+-- what a byte stands for as a hexadecimal digit, where it is one
+pub data HexIs (b : ℕ) : Option ℕ → Type 0 where
+  digit : {v : ℕ} → 0x30 ≤ b → b ≤ 0x39 → v ≡ b - 0x30 → HexIs b (Some v)
+  upper : {v : ℕ} → 0x41 ≤ b → b ≤ 0x46 → v ≡ b - 0x37 → HexIs b (Some v)
+  lower : {v : ℕ} → 0x61 ≤ b → b ≤ 0x66 → v ≡ b - 0x57 → HexIs b (Some v)
+  none : (0x30 ≤ b → b ≤ 0x39 → ⊥) → (0x41 ≤ b → b ≤ 0x46 → ⊥) → (0x61 ≤ b → b ≤ 0x66 → ⊥) → HexIs b None
+
+-- the byte at a place of the query, or that the query ends before it
+abbrev pub ByteAt : List ℕ → ℕ → Result ℕ Dead → Type 0
+ByteAt q at (Ok b) = (at < length q) × (b ≡ get_or q at 0)
+ByteAt q at (Err dead) = (length q ≤ at) × (dead.at ≡ at)
+
+-- what the byte there stands for as a hexadecimal digit, or that it is none
+abbrev pub HexAt : List ℕ → ℕ → Result ℕ Dead → Type 0
+HexAt q at (Ok v) = (at < length q) × HexIs (get_or q at 0) (Some v)
+HexAt q at (Err dead) = HexIs (get_or q at 0) None × (dead.at ≡ at)
 
 -- a part of an escape, from where its byte d is due; what stands there is said of the query behind it and of the query from `at` on
 pub record Part (Stands : List ℕ → List ℕ → Type 0) (d : Due) (q : List ℕ) (at : ℕ) (ok : Bool) (r : ℕ) : Type 0 where

@@ -1,12 +1,12 @@
 -- Names: which bytes below 80 are characters of a name, and which end it or are dead by the machine's tables; code points from 80 on by their
 -- rows; and a name, one character more at a time, is spelt by the machine.
 -- Assumes nothing.
-use mathlib.Core.Path.{◌≡◌, refl, ap, sym, subst, ◌∙◌}
+use mathlib.Core.Path.{◌≡◌, refl, ap, sym, ◌∙◌}
 use mathlib.Core.List.{List, [], ◌∷◌, ◌++◌}
 use mathlib.Core.Bool.{Bool, true, false, false≢true, true≢false}
 use Prim.Native.Nat.{ℕ, ◌+◌, ◌≤◌, ◌<◌}
 use native.Mathlib.Omega.{arith}
-use lib.Dec.{T, leb}
+use lib.Dec.{leb}
 use borrow.Author.Tests.{leb-true, leb-false}
 use lib.ListN.{length, get_or, drop, drop_of_length-le}
 use lib.Seq.{slice, get_or-drop}
@@ -28,7 +28,7 @@ use Rattle.query.specs.MachineLaws.{miss, miss_only, landing, leads, all_parted,
 use Rattle.query_escapes.specs.Scans.{Moved, Escaped}
 use Rattle.query_escapes.specs.ScansLaws.{stayed, went_on, passed_on}
 use Rattle.query_lexer.specs.Scans.{NameByteIs, digit, upper, underscore, lower, below_digits, below_upper, between_cases, above_lower}
-use Rattle.query_lexer.specs.Scans.{spelt, NoName, NameChar, FirstChar, ShortName, QuotedChar, QuotedName}
+use Rattle.query_lexer.specs.Scans.{spelt, NoName, IsDigit, NameChar, FirstChar, ShortName, QuotedChar, QuotedName}
 use Rattle.query_lexer.proofs.Letters.{spelt_put, spelt_bad}
 use Rattle.query_lexer.proofs.Wides.{wide_dotted, wide_short, wide_quoted, wide_dead}
 
@@ -102,9 +102,9 @@ module _ (q : List ℕ) (i : ℕ) (h : i < length q) where
     over = λ e g. absurd (omega arith);
   }
 
-  pub name_on : {x : Bool} → NameByteIs (get_or q i 0) x → x ≡ true → NameChar q i true (i + 1)
-  name_on x e =
-      let (c, t) = name_stands (subst (NameByteIs (get_or q i 0)) e x) (drop (i + 1) q) in
+  pub name_on : NameByteIs (get_or q i 0) true → NameChar q i true (i + 1)
+  name_on x =
+      let (c, t) = name_stands x (drop (i + 1) q) in
       record {
         moved = went_on h;
         stands = λ z. (c, t ∙ sym (byte_at_lem q i h));
@@ -113,29 +113,24 @@ module _ (q : List ℕ) (i : ℕ) (h : i < length q) where
         over = λ z. absurd (true≢false z);
       }
 
-  pub name_off : {x : Bool} → NameByteIs (get_or q i 0) x → x ≡ false → get_or q i 0 < 0x80 → NameChar q i false i
-  name_off x e w =
-      let y = subst (NameByteIs (get_or q i 0)) e x in
-      record {
-        moved = stayed (omega arith);
-        stands = λ z. absurd (false≢true z);
-        no_first = λ z d n f. stop_at (M.dotted d) q i h (no_name d y w n);
-        dead = λ z g. absurd (omega arith);
-        over = λ z g. same_done (name_over y w);
-      }
-    where
-      same_done : step (M.at (inside short)) (get_or q i 0) ≡ step (M.at done) (get_or q i 0) →
-          reading (inside short) i (drop i q) ≡ reading done i (drop i q)
-      same_done f =
-          ap (reading (inside short) i) (byte_at_lem q i h) ∙ alike (inside short) done refl refl refl i (get_or q i 0) (drop (i + 1) q) f ∙
-          ap (reading done i) (sym (byte_at_lem q i h))
-
-  -- a digit may not come first
-  pub no_first_digit : 0x30 ≤ get_or q i 0 → get_or q i 0 ≤ 0x39 → FirstChar q i false i
-  no_first_digit l u = record {
+  pub name_off : NameByteIs (get_or q i 0) false → get_or q i 0 < 0x80 → NameChar q i false i
+  name_off x w = record {
     moved = stayed (omega arith);
     stands = λ z. absurd (false≢true z);
-    dead = λ z d n. stop_at (M.dotted d) q i h (digit_dies d l u);
+    no_first = λ z d n f. stop_at (M.dotted d) q i h (no_name d x w n);
+    dead = λ z g. absurd (omega arith);
+    over = λ z g.
+        ap (reading (inside short) i) (byte_at_lem q i h) ∙
+        alike (inside short) done refl refl refl i (get_or q i 0) (drop (i + 1) q) (name_over x w) ∙
+        ap (reading done i) (sym (byte_at_lem q i h));
+  }
+
+  -- a digit may not come first
+  pub no_first_digit : IsDigit (get_or q i 0) → FirstChar q i false i
+  no_first_digit x = record {
+    moved = stayed (omega arith);
+    stands = λ z. absurd (false≢true z);
+    dead = λ z d n. stop_at (M.dotted d) q i h (digit_dies d x.low x.high);
   }
 
 pub first_char : {q : List ℕ} {i : ℕ} {ok : Bool} {r : ℕ} → NameChar q i ok r → (0x30 ≤ get_or q i 0 → get_or q i 0 ≤ 0x39 → ⊥) → FirstChar q i ok r
@@ -159,28 +154,18 @@ short_reads {q} {n} {i} s d =
     spelt_put q (M.dotted d) (inside short) n i (omega (arith, s.from)) s.within (put_short (G.shorthand x cs)) (append-short (G.shorthand x cs))
     (spells_shorthand d x cs) t
 
-pub short_begins : {q : List ℕ} {n : ℕ} {ok : Bool} {i : ℕ} → FirstChar q n ok i → ok ≡ true → ShortSoFar q n i
+pub short_begins : {q : List ℕ} {n i : ℕ} → FirstChar q n true i → ShortSoFar q n i
 unfolding put_laters
-short_begins {q} {n} {ok} {i} x e =
-    record { from = x.moved.on e; within = x.moved.within; stands = ((x.stands e).0, [], (x.stands e).1) }
+short_begins x = let (y, t) = x.stands refl in record { from = x.moved.on refl; within = x.moved.within; stands = (y, [], t) }
 
-pub short_dead : {q : List ℕ} {n : ℕ} {ok : Bool} {i : ℕ} → FirstChar q n ok i → ok ≡ false → ShortName q n ok i
-short_dead {q} {n} {ok} {i} x e =
-    record {
-      moved = x.moved;
-      stands = λ z. absurd (subst T (sym z ∙ e) tt);
-      reads = λ d f. x.dead e d f ∙ ap (λ (b : Bool). spelt q done n b i) (sym e);
-    }
-
-pub short_goes_on : {q : List ℕ} {n i : ℕ} {ok : Bool} {r : ℕ} → ShortSoFar q n i → NameChar q i ok r → ok ≡ true → ShortSoFar q n r
-short_goes_on {q} {n} {i} {ok} {r} s x e =
-    let m = x.moved.on e in
-    let c = x.stands e in
+pub short_goes_on : {q : List ℕ} {n i r : ℕ} → ShortSoFar q n i → NameChar q i true r → ShortSoFar q n r
+short_goes_on {q} {r} s x =
+    let (c, t) = x.stands refl in
     let (y, cs, w) = s.stands in
     record {
-      from = omega (arith, s.from);
+      from = omega (arith, s.from, x.moved.on refl);
       within = x.moved.within;
-      stands = (y, cs ++ c.0 ∷ [], ap (put_first y) (laters_more cs c.0 (drop r q) ∙ ap (put_laters cs) c.1) ∙ w);
+      stands = (y, cs ++ c ∷ [], ap (put_first y) (laters_more cs c (drop r q) ∙ ap (put_laters cs) t) ∙ w);
     }
 
 -- it ends before i, at the end of the query or at a byte in no name
@@ -192,23 +177,20 @@ short_ends {q} {n} {i} s e =
       reads = λ d f. short_reads s d ∙ ap (spell (slice n i q)) e;
     }
 
-pub short_over : {q : List ℕ} {n i : ℕ} {ok : Bool} {r : ℕ} → ShortSoFar q n i → NameChar q i ok r → ok ≡ false → get_or q i 0 < 0x80 →
-    ShortName q n true i
-short_over s x e w = short_ends s (x.over e w)
+pub short_over : {q : List ℕ} {n i r : ℕ} → ShortSoFar q n i → NameChar q i false r → get_or q i 0 < 0x80 → ShortName q n true i
+short_over s x w = short_ends s (x.over refl w)
 
 pub short_all : {q : List ℕ} {n i : ℕ} → ShortSoFar q n i → length q ≤ i → ShortName q n true i
 unfolding reading
 short_all {q} {n} {i} s h =
     short_ends s (ap (reading (inside short) i) (drop_of_length-le q h) ∙ sym (ap (reading done i) (drop_of_length-le q h)))
 
-pub short_wide_dead : {q : List ℕ} {n i : ℕ} {ok : Bool} {r : ℕ} → ShortSoFar q n i → NameChar q i ok r → ok ≡ false → 0x80 ≤ get_or q i 0 →
-    ShortName q n ok r
-short_wide_dead {q} {n} {i} {ok} {r} s x e w =
-    record {
-      moved = record { within = x.moved.within; on = λ z. let y : ◌≡◌ {A = Bool} true false = cc in absurd (subst T y tt) };
-      stands = λ z. absurd (subst T (sym z ∙ e) tt);
-      reads = λ d f. spelt_bad q (M.dotted d) (inside short) n i r (short_reads s d) (x.dead e w) ∙ ap (λ (b : Bool). spelt q done n b r) (sym e);
-    }
+pub short_wide_dead : {q : List ℕ} {n i r : ℕ} → ShortSoFar q n i → NameChar q i false r → 0x80 ≤ get_or q i 0 → ShortName q n false r
+short_wide_dead {q} {n} {i} {r} s x w = record {
+  moved = record { within = x.moved.within; on = λ z. absurd (false≢true z) };
+  stands = λ z. absurd (false≢true z);
+  reads = λ d f. spelt_bad q (M.dotted d) (inside short) n i r (short_reads s d) (x.dead refl w);
+}
 
 -- quoted names
 
@@ -251,7 +233,7 @@ module _ (q : List ℕ) (quote i : ℕ) (h : i < length q) where
   pub quoted_control : get_or q i 0 < 0x20 → QuotedChar q quote i false i
   quoted_control w = record {
     moved = stayed (omega arith);
-    stands = λ e. absurd (subst T (sym e) tt);
+    stands = λ e. absurd (false≢true e);
     dead = λ e x z f. stop_at (inside (quoted x)) q i h (control_dies x w);
   }
 
@@ -267,7 +249,7 @@ module _ (q : List ℕ) (quote i : ℕ) (h : i < length q) where
     moved = went_on h;
     stands = λ e x z f.
         let (c, t) = quoted_stands x (get_or q i 0) l u n (λ y. f (y ∙ sym z)) (drop (i + 1) q) in (c, t ∙ sym (byte_at_lem q i h));
-    dead = λ e. absurd (subst T e tt);
+    dead = λ e. absurd (true≢false e);
   }
 
 -- a quoted name spelt from n up to i
@@ -287,38 +269,33 @@ unfolding put_chars
 quoted_begins {q} {quote} {n} h =
     record { from = omega arith; within = h; stand = λ x e. ([], refl) }
 
-pub quoted_goes_on : {q : List ℕ} {quote n i : ℕ} {ok : Bool} {r : ℕ} → QuotedSoFar q quote n i → (get_or q i 0 ≡ quote → ⊥) →
-    QuotedChar q quote i ok r → ok ≡ true → QuotedSoFar q quote n r
-quoted_goes_on {q} {quote} {n} {i} {ok} {r} s f x e =
-    let m = x.moved.on e in
-    record {
-      from = omega (arith, s.from);
-      within = x.moved.within;
-      stand = λ y z. let c = x.stands e y z f in let d = s.stand y z in
-          (d.0 ++ c.0 ∷ [], chars_more d.0 c.0 (drop r q) ∙ ap (put_chars d.0) c.1 ∙ d.1);
-    }
+pub quoted_goes_on : {q : List ℕ} {quote n i r : ℕ} → QuotedSoFar q quote n i → (get_or q i 0 ≡ quote → ⊥) → QuotedChar q quote i true r →
+    QuotedSoFar q quote n r
+quoted_goes_on {q} {r = r} s f x = record {
+  from = omega (arith, s.from, x.moved.on refl);
+  within = x.moved.within;
+  stand = λ y z.
+      let (c, t) = x.stands refl y z f in
+      let (cs, w) = s.stand y z in
+      (cs ++ c ∷ [], chars_more cs c (drop r q) ∙ ap (put_chars cs) t ∙ w);
+}
 
 pub quoted_closes : {q : List ℕ} {quote n i : ℕ} → QuotedSoFar q quote n i → i < length q → get_or q i 0 ≡ quote → QuotedName q quote n true i
 quoted_closes s h e = record { within = s.within; closed = λ w. (s.from, h, e); stand = λ w. s.stand; reads = quoted_reads s }
 
-pub quoted_dead : {q : List ℕ} {quote n i : ℕ} {ok : Bool} {r : ℕ} → QuotedSoFar q quote n i → (get_or q i 0 ≡ quote → ⊥) →
-    QuotedChar q quote i ok r → ok ≡ false → QuotedName q quote n ok r
-quoted_dead {q} {quote} {n} {i} {ok} {r} s f x e =
-    record {
-      within = x.moved.within;
-      closed = λ w. absurd (subst T (sym w ∙ e) tt);
-      stand = λ w. absurd (subst T (sym w ∙ e) tt);
-      reads = λ y z.
-          spelt_bad q (inside (quoted y)) (inside (quoted y)) n i r (quoted_reads s y z) (x.dead e y z f) ∙
-          ap (λ (b : Bool). spelt q (inside (quoted y)) n b r) (sym e);
-    }
+pub quoted_dead : {q : List ℕ} {quote n i r : ℕ} → QuotedSoFar q quote n i → (get_or q i 0 ≡ quote → ⊥) → QuotedChar q quote i false r →
+    QuotedName q quote n false r
+quoted_dead {q} {quote} {n} {i} {r} s f x = record {
+  within = x.moved.within;
+  closed = λ w. absurd (false≢true w);
+  stand = λ w. absurd (false≢true w);
+  reads = λ y z. spelt_bad q (inside (quoted y)) (inside (quoted y)) n i r (quoted_reads s y z) (x.dead refl y z f);
+}
 
 pub quoted_open : {q : List ℕ} {quote n i : ℕ} → QuotedSoFar q quote n i → length q ≤ i → QuotedName q quote n false i
-quoted_open {q} {quote} {n} {i} s h =
-    record {
-      within = s.within;
-      closed = λ w. absurd (subst T (sym w) tt);
-      stand = λ w. absurd (subst T (sym w) tt);
-      reads = λ x z.
-          spelt_bad q (inside (quoted x)) (inside (quoted x)) n i i (quoted_reads s x z) (end_at (inside (quoted x)) q i h refl);
-    }
+quoted_open {q} {quote} {n} {i} s h = record {
+  within = s.within;
+  closed = λ w. absurd (false≢true w);
+  stand = λ w. absurd (false≢true w);
+  reads = λ x z. spelt_bad q (inside (quoted x)) (inside (quoted x)) n i i (quoted_reads s x z) (end_at (inside (quoted x)) q i h refl);
+}

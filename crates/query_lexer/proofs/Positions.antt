@@ -1,11 +1,11 @@
 -- Positions: each digit that leads on is one more of the position that stands there, and at the first byte that is none it is whole.
 -- Assumes nothing.
-use mathlib.Core.Path.{◌≡◌, ap, sym, subst, ◌∙◌}
+use mathlib.Core.Path.{◌≡◌, ap, sym, ◌∙◌}
 use mathlib.Core.List.{List, []}
-use mathlib.Core.Bool.{Bool, true, false}
 use Prim.Native.Nat.{ℕ, ◌+◌, ◌-◌, ◌*◌, ◌≤◌, ◌<◌}
 use native.Mathlib.Omega.{arith}
 use lib.ListN.{length, get_or, drop, length-drop}
+use Rattle.std.specs.Prelude.{Some, None}
 use Rattle.encoding.specs.BytesLaws.{byte_at_lem, size}
 use Rattle.query.specs.Grammar.{Position, put_position, position_of, max_position}
 use Rattle.query.specs.Machine.{opened, in_position}
@@ -32,20 +32,16 @@ first_digit {q} {n} {v} h d e =
       small = omega (arith, d.high);
     }
 
-pub one_more : {q : List ℕ} {n i v w : ℕ} {x : Bool} → DigitsUpTo q n i v → i < length q → LeadsOn v (get_or q i 0) x → x ≡ true →
-    w ≡ v * 10 + (get_or q i 0 - 0x30) → DigitsUpTo q n (i + 1) w
-one_more {q} {n} {i} {v} {w} s h m e f = go (subst (LeadsOn v (get_or q i 0)) e m)
-  where
-    go : LeadsOn v (get_or q i 0) true → DigitsUpTo q n (i + 1) w
-    go (more g d l) =
-        let (p, t, z) = s.stands in
-        let (p', t', z') = digit_more p (omega arith) (get_or q i 0) d.low d.high in
-        record {
-          on = omega (arith, s.on);
-          within = omega arith;
-          stands = (p', t' (drop (i + 1) q) ∙ ap (put_position p) (sym (byte_at_lem q i h)) ∙ t, z' ∙ omega arith);
-          small = omega arith;
-        }
+pub one_more : {q : List ℕ} {n i v w : ℕ} → DigitsUpTo q n i v → i < length q → LeadsOn v (get_or q i 0) (Some w) → DigitsUpTo q n (i + 1) w
+one_more {q} {n} {i} s h (more g d e l) =
+    let (p, t, z) = s.stands in
+    let (p', t', z') = digit_more p (omega arith) (get_or q i 0) d.low d.high in
+    record {
+      on = omega (arith, s.on);
+      within = omega arith;
+      stands = (p', t' (drop (i + 1) q) ∙ ap (put_position p) (sym (byte_at_lem q i h)) ∙ t, z' ∙ omega arith);
+      small = l;
+    }
 
 -- how far they reach
 far : {q : List ℕ} {n i v : ℕ} (s : DigitsUpTo q n i v) → n + length (put_position s.stands.0 []) ≡ i
@@ -70,11 +66,8 @@ whole {q} {n} {i} {v} s f = record {
   reads = read_on_lem s ∙ behind_at v q i f;
 }
 
-pub ends_before : {q : List ℕ} {n i v : ℕ} {x : Bool} → DigitsUpTo q n i v → LeadsOn v (get_or q i 0) x → x ≡ false → PositionAt q n i v
-ends_before {q} {n} {i} {v} s m e = go (subst (LeadsOn v (get_or q i 0)) e m)
-  where
-    go : LeadsOn v (get_or q i 0) false → PositionAt q n i v
-    go (none f) = whole s (λ h. f)
+pub ends_before : {q : List ℕ} {n i v : ℕ} → DigitsUpTo q n i v → LeadsOn v (get_or q i 0) None → PositionAt q n i v
+ends_before s (none f) = whole s (λ h. f)
 
-pub ends_query : {q : List ℕ} {n i v : ℕ} → DigitsUpTo q n i v → length q ≤ i → PositionAt q n i v
-ends_query s l = whole s (λ h. absurd (omega arith))
+pub ends_query : {q : List ℕ} {n i v : ℕ} → DigitsUpTo q n i v → length q ≤ i → PositionAt q n (length q) v
+ends_query {q} {i} s l = let e : length q ≡ i = omega (arith, s.within) in rw (e) (whole s (λ h. absurd (omega arith)))

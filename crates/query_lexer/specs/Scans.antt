@@ -1,5 +1,5 @@
 -- What a scan of a query says: the part of the grammar that stands there, with the query from behind it on, and how the reading goes on.
-use Rattle.std.specs.Prelude.{◌≡◌, List, Bool, true, false, ℕ, ◌+◌, ◌-◌, ◌*◌, ◌≤◌, ◌<◌, length, get_or, drop}
+use Rattle.std.specs.Prelude.{◌≡◌, List, Bool, true, false, ℕ, ◌+◌, ◌-◌, ◌*◌, ◌≤◌, ◌<◌, Option, Some, None, length, get_or, drop}
 use Rattle.std.proofs.Math.Seq.{slice}
 use Rattle.encoding.specs.Bytes.{Blank, Blanks, blank_byte, put_blanks}
 use Rattle.query.specs.Grammar.{First, Later, Char, Quote, quote_byte, Depth, plain, deep, put_first, put_later, put_laters, put_char, put_chars}
@@ -91,10 +91,10 @@ pub data DigitIs (b : ℕ) : Bool → Type 0 where
   is_digit : IsDigit b → DigitIs b true
   no_digit : (0x30 ≤ b → b ≤ 0x39 → ⊥) → DigitIs b false
 
--- whether b is one digit more of a position, behind those that stand for v
-pub data LeadsOn (v b : ℕ) : Bool → Type 0 where
-  more : 0 < v → IsDigit b → v * 10 + (b - 0x30) ≤ max_position → LeadsOn v b true
-  none : NoMore v b → LeadsOn v b false
+-- what a position becomes with b as one digit more, behind those that stand for v, where b is one
+pub data LeadsOn (v b : ℕ) : Option ℕ → Type 0 where
+  more : {w : ℕ} → 0 < v → IsDigit b → w ≡ v * 10 + (b - 0x30) → w ≤ max_position → LeadsOn v b (Some w)
+  none : NoMore v b → LeadsOn v b None
 
 -- the position whose first digit stands at `at`: its digits up to r, which stand for v. Behind them it is whole: what is read from its first
 -- digit on is what is read where the brackets are to be closed, and that the step takes position v.

@@ -2,12 +2,12 @@
 #![tactic(auto)]
 
 ghost use Rattle.std.specs.Prelude.{◌≡◌, ◌+◌, ◌-◌, ◌*◌, ◌≤◌, ◌<◌, length, get_or};
-ghost use Rattle.encoding.specs.RowTable.{RowTable};
+ghost use Rattle.encoding.specs.Reads.{Reads};
 ghost use Rattle.query.specs.Grammar.{max_position};
 ghost use Rattle.query_lexer.specs.Scans.{BlankIs, NameByteIs, Skipped, NameChar, FirstChar, ShortName, QuotedChar, QuotedName};
 ghost use Rattle.query_lexer.specs.Scans.{IsDigit, DigitIs, LeadsOn, PositionAt};
 
-use encoding::{Rows, Scan};
+use encoding::{Dead, Read};
 
 // The four blanks.
 const SPACE: u8 = 0x20;
@@ -34,22 +34,11 @@ pub struct Digits {
 }
 
 // Whether `b` is a blank.
+#[tactic(auto, using(crate::specs::ScansLaws::blank_cases))]
 fn is_blank(b: u8) -> bool
     ensures { BlankIs b result }
 {
-    if b == SPACE {
-        return true;
-    }
-    if b == TAB {
-        return true;
-    }
-    if b == FEED {
-        return true;
-    }
-    if b == RETURN {
-        return true;
-    }
-    false
+    matches!(b, SPACE | TAB | FEED | RETURN)
 }
 
 // The end of the blanks that start at `at`: the first place from there on with no blank, or the length.
@@ -57,151 +46,104 @@ pub fn skip_blanks(query: &[u8], at: usize) -> usize
     requires { at ≤ length query.now }
     ensures { Skipped query.now at result }
 {
-    let mut i = at;
-    while i < query.len() {
+    for i in at..query.len() {
         if !is_blank(query[i]) {
             return i;
         }
-        i += 1;
     }
-    i
+    query.len()
 }
 
 // Whether `b`, below 80, may stand in a shorthand name.
+#[tactic(auto, using(crate::specs::ScansLaws::name_byte_cases))]
 fn is_name_byte(b: u8) -> bool
     ensures { NameByteIs b result }
 {
-    if b < b'0' {
-        return false;
-    }
-    if b <= b'9' {
-        return true;
-    }
-    if b < b'A' {
-        return false;
-    }
-    if b <= b'Z' {
-        return true;
-    }
-    if b == b'_' {
-        return true;
-    }
-    if b < b'a' {
-        return false;
-    }
-    if b > b'z' {
-        return false;
-    }
-    true
+    matches!(b, b'0'..=b'9' | b'A'..=b'Z' | b'_' | b'a'..=b'z')
 }
 
-// One character of a shorthand name at `at`: ok and the place after it. Not ok: `at` where a byte below 80 stands there that is in no
-// name, and else the place of the dead byte.
-fn name_char(rows: &Rows, query: &[u8], at: usize) -> Scan
-    requires { (at < length query.now) × RowTable rows.now }
-    ensures { NameChar query.now at result.ok result.at }
+// One character of a shorthand name at `at`: the place after it. Dead is the byte at `at` where that is one below 80 that is in no name, and
+// else the first with which no code point goes on.
+fn name_char(query: &[u8], at: usize) -> Read
+    requires { at < length query.now }
+    ensures { Reads (NameChar query.now at) result }
 {
     let b = query[at];
-    if !encoding::narrow(rows, b) {
-        return encoding::code_point(rows, query, at);
+    if !encoding::narrow(b) {
+        return encoding::code_point(query, at);
     }
     if is_name_byte(b) {
-        return Scan {
-            ok: true,
-            at: at + 1,
-        };
+        return Ok(at + 1);
     }
-    Scan { ok: false, at }
+    Err(Dead { at })
 }
 
-// The first character of a shorthand name at `at`, which is no digit: ok and the place after it, or not ok and the place of the dead byte.
-fn first_char(rows: &Rows, query: &[u8], at: usize) -> Scan
-    requires { (at < length query.now) × RowTable rows.now }
-    ensures { FirstChar query.now at result.ok result.at }
+// The first character of a shorthand name at `at`, which is no digit.
+fn first_char(query: &[u8], at: usize) -> Read
+    requires { at < length query.now }
+    ensures { Reads (FirstChar query.now at) result }
 {
-    let b = query[at];
-    if b > b'9' {
-        return name_char(rows, query, at);
+    if is_digit(query[at]) {
+        return Err(Dead { at });
     }
-    if b >= b'0' {
-        return Scan { ok: false, at };
-    }
-    name_char(rows, query, at)
+    name_char(query, at)
 }
 
-// The shorthand name at `at`: ok and the place after it, or not ok and the place of the dead byte.
-pub fn shorthand(rows: &Rows, query: &[u8], at: usize) -> Scan
-    requires { (at < length query.now) × RowTable rows.now }
-    ensures { ShortName query.now at result.ok result.at }
+// The shorthand name at `at`.
+pub fn shorthand(query: &[u8], at: usize) -> Read
+    requires { at < length query.now }
+    ensures { Reads (ShortName query.now at) result }
 {
-    let first = first_char(rows, query, at);
-    if !first.ok {
-        return first;
-    }
-    let mut i = first.at;
+    let mut i = first_char(query, at)?;
     while i < query.len() {
-        let next = name_char(rows, query, i);
-        if !next.ok {
-            if encoding::narrow(rows, query[i]) {
-                return Scan { ok: true, at: i };
-            }
-            return next;
+        match name_char(query, i) {
+            Ok(next) => i = next,
+            Err(_) if encoding::narrow(query[i]) => return Ok(i),
+            Err(dead) => return Err(dead),
         }
-        i = next.at;
     }
-    Scan { ok: true, at: i }
+    Ok(i)
 }
 
-// One character at `at` of a name between two of `quote`, where its quote does not stand: ok and the place after it, or not ok and the place
-// of the dead byte.
-fn quoted_char(rows: &Rows, query: &[u8], quote: u8, at: usize) -> Scan
-    requires { (at < length query.now) × RowTable rows.now }
-    ensures { QuotedChar query.now quote at result.ok result.at }
+// One character at `at` of a name between two of `quote`, where its quote does not stand.
+fn quoted_char(query: &[u8], quote: u8, at: usize) -> Read
+    requires { at < length query.now }
+    ensures { Reads (QuotedChar query.now quote at) result }
 {
     let b = query[at];
-    if !encoding::narrow(rows, b) {
-        return encoding::code_point(rows, query, at);
+    if !encoding::narrow(b) {
+        return encoding::code_point(query, at);
     }
     if b < PRINTABLE {
-        return Scan { ok: false, at };
+        return Err(Dead { at });
     }
     if b == BACKSLASH {
         return query_escapes::escaped(query, quote, at + 1);
     }
-    Scan {
-        ok: true,
-        at: at + 1,
-    }
+    Ok(at + 1)
 }
 
-// The quoted name whose first character would stand at `at`: ok and the place of its closing quote, or not ok and the place of the dead
-// byte.
-pub fn quoted(rows: &Rows, query: &[u8], quote: u8, at: usize) -> Scan
-    requires { (at ≤ length query.now) × RowTable rows.now }
-    ensures { QuotedName query.now quote at result.ok result.at }
+// The quoted name whose first character would stand at `at`, up to the place of its closing quote.
+pub fn quoted(query: &[u8], quote: u8, at: usize) -> Read
+    requires { at ≤ length query.now }
+    ensures { Reads (QuotedName query.now quote at) result }
 {
     let mut i = at;
     while i < query.len() {
         if query[i] == quote {
-            return Scan { ok: true, at: i };
+            return Ok(i);
         }
-        let next = quoted_char(rows, query, quote, i);
-        if !next.ok {
-            return next;
-        }
-        i = next.at;
+        i = quoted_char(query, quote, i)?;
     }
-    Scan { ok: false, at: i }
+    Err(Dead { at: i })
 }
 
 // Whether `b` is a digit.
+#[tactic(auto, using(crate::specs::ScansLaws::digit_cases))]
 pub fn is_digit(b: u8) -> bool
     ensures { DigitIs b result }
 {
-    match b {
-        b'0'..=b'9' => true,
-        _ => false,
-    }
+    matches!(b, b'0'..=b'9')
 }
 
 // The number that the digits of `number` stand for with the digit `b` behind them.
@@ -209,24 +151,24 @@ fn with_digit(number: u64, b: u8) -> u64
     requires { (number ≤ max_position) × IsDigit b }
     ensures { result ≡ number * 10 + (b - 0x30) }
 {
-    number * 10 + (b - b'0') as u64
+    number * 10 + u64::from(b - b'0')
 }
 
-// Whether `b` is one digit more behind those of `number`: none stands behind a first 0, and none carries the number past the maximum.
-fn leads_on(number: u64, b: u8) -> bool
+// The number to which `b` leads on, as one digit more behind those of `number`: none stands behind a first 0, and none carries the number past
+// the maximum.
+#[tactic(auto, using(crate::specs::ScansLaws::leads_on_cases))]
+fn leads_on(number: u64, b: u8) -> Option<u64>
     requires { number ≤ max_position }
     ensures { LeadsOn number b result }
 {
-    if number == 0 {
-        return false;
+    if number == 0 || !is_digit(b) {
+        return None;
     }
-    if !is_digit(b) {
-        return false;
+    let more = with_digit(number, b);
+    if more > MAX_POSITION {
+        return None;
     }
-    if with_digit(number, b) > MAX_POSITION {
-        return false;
-    }
-    true
+    Some(more)
 }
 
 // The position whose first digit stands at `at`: as many digits as lead on, so none behind a first 0, and none that would carry the number
@@ -236,14 +178,14 @@ pub fn position(query: &[u8], at: usize) -> Digits
     ensures { PositionAt query.now at result.at result.number }
 {
     let mut number = with_digit(0, query[at]);
-    let mut i = at + 1;
-    while i < query.len() {
-        let b = query[i];
-        if !leads_on(number, b) {
+    for i in at + 1..query.len() {
+        let Some(more) = leads_on(number, query[i]) else {
             return Digits { at: i, number };
-        }
-        number = with_digit(number, b);
-        i += 1;
+        };
+        number = more;
     }
-    Digits { at: i, number }
+    Digits {
+        at: query.len(),
+        number,
+    }
 }

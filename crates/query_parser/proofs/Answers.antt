@@ -1,41 +1,35 @@
 -- The answer to a query: what was read so far stands before what is still to be read, and the verdict is that of the whole.
 -- Assumes nothing.
+use Rattle.std.specs.Prelude.{Ok, Err}
 use mathlib.Core.Path.{◌≡◌, refl, ap, sym, subst, ◌∙◌}
 use mathlib.Core.Bool.{true, false≢true}
 use mathlib.Core.List.{List, [], ◌∷◌, ◌++◌, map, append_assoc, append-nil}
 use mathlib.Core.Logic.{◌⊎◌, inl, inr}
 use Prim.Native.Nat.{ℕ, suc, ◌≤◌, ◌<◌}
 use native.Mathlib.Omega.{arith}
-use denote.Enum.Declared.{tag_of}
 use lib.ListN.{length, get_or, take, drop, length-append}
 use Rattle.query_steps.specs.declared.Found.{Found}
-use Rattle.query_steps.specs.declared.StepRead.{StepRead}
-use Rattle.query_steps.specs.declared.Taking.{Taking}
-use Rattle.query_steps.specs.declared.Taking.TheVariants.{Every, Name, Position}
 use Rattle.query_parser.specs.declared.compiled.Compiled.{Compiled}
-use Rattle.query_parser.specs.declared.compiled.Entry.{Entry}
-use Rattle.query_parser.specs.declared.Outcome.{Outcome}
 use Rattle.bits.specs.Bits.{bit}
 use Rattle.bits.specs.Laws.{bit-zero, lt_or_ge}
 use Rattle.encoding.specs.Verdict
-use Rattle.encoding.specs.Verdict.{Verdict, refused}
+use Rattle.encoding.specs.Verdict.{Verdict}
+use Rattle.encoding.specs.Refusals.{refused}
+use Rattle.encoding.specs.declared.refusals.Refusal.{Refusal}
 use Rattle.query.specs.Steps.{Step}
 use Rattle.query.specs.Machine.{root, done, place, start}
 use Rattle.query.specs.Read.{Placed, named, Reading, good, bad, reading, steps_read}
 use Rattle.query.proofs.Ended.{Ended, clean, cut, ended}
-use Rattle.query_steps.specs.Reader.{read_place, placed_at, Bounded, push, StepTaken, StepAt}
+use Rattle.query.proofs.Place.{place_bad}
+use Rattle.query_steps.specs.Reader.{placed_at, push, StepTaken, StepRefused}
 use Rattle.query.specs.Verdict.{max_query_bytes, max_steps, decoded_step, steps_in, place_of, judged, overlong, query_verdict}
-use Rattle.query.proofs.Says.{short_enough, too_long, early, late, few, too_many}
+use Rattle.query.proofs.Says.{short_enough, too_long, early, few, too_many}
 use Rattle.query.proofs.LongLaws.{overlong-take}
-use Rattle.query_parser.specs.Compiles.{HeldTo, Stands, Decodes, Adds}
+use Rattle.query_parser.specs.Compiles.{HeldTo, Decodes, Adds}
 use Rattle.query_parser.specs.Holds.{Holds, no_steps_of}
-use Rattle.query_parser.specs.Answer.{refusal, refusal_by, rest_of, overflow, StepsFor, QueryRead}
+use Rattle.query_parser.specs.Answer.{wrong_at, rest_of, overflow, QueryRead}
 use Rattle.query_parser.proofs.Masks.{held_on}
-use Rattle.query_parser.proofs.DeadBytes.{step_refused, nothing_left, empty_at, other_at, root_at}
-use Rattle.query_steps.specs.contracts.StepRead.{the_type}
-
-abbrev pub refused_with : ℕ → ℕ → Compiled → Outcome
-refused_with g p c = record { ground = g; place = p; steps = c }
+use Rattle.query_parser.proofs.DeadBytes.{nothing_left, empty_at, other_at, root_at}
 
 -- steps, and then what is still to be read
 abbrev prepend : List Placed → Reading → Reading
@@ -67,37 +61,33 @@ length-steps (x ∷ l) = ap suc (length-steps l)
 
 -- refusals
 
-refused_answer : {q names : List ℕ} {g p : ℕ} {a : Outcome} → query_verdict q ≡ refused (suc g) p → a ≡ refusal (suc g) p → QueryRead q names a
-refused_answer {q} {names} {g} {p} {a} e f = record {
-  ground = ap (λ (x : Outcome). x.ground) f ∙ sym (ap (λ (v : Verdict). v.ground) e);
-  place = ap (λ (x : Outcome). x.place) f ∙ sym (ap (λ (v : Verdict). v.place) e);
-  steps = subst (λ (v : Verdict). StepsFor q names v.ground a.steps) (sym e) (ap (λ (x : Outcome). x.steps) f);
-}
+refused_answer : {q names : List ℕ} {r : Refusal} → query_verdict q ≡ refused r → QueryRead q names (Err r)
+refused_answer e = record { verdict = sym e; steps = tt }
 
 -- more than 1,024 bytes: the first 1,024 decide
-pub long_answer : {q names : List ℕ} {a : Outcome} → max_query_bytes < length q → a ≡ refusal_by (overlong (place start (take max_query_bytes q)))
-    → QueryRead q names a
-long_answer {q} {names} {a} h f = go (lt_or_ge (place start q) max_query_bytes)
-  where
-    by : {g p : ℕ} → overlong (place start q) ≡ refused (suc g) p → QueryRead q names a
-    by e = refused_answer (too_long q h ∙ e) (f ∙ ap refusal_by (overlong-take q ∙ e))
+pub long_answer : {q names : List ℕ} {r : Refusal} → max_query_bytes < length q → refused r ≡ overlong (place start (take max_query_bytes q))
+    → QueryRead q names (Err r)
+long_answer {q} h f = refused_answer (too_long q h ∙ sym (overlong-take q) ∙ sym f)
 
-    go : (place start q < max_query_bytes) ⊎ (max_query_bytes ≤ place start q) → QueryRead q names a
-    go (inl l) = by (early (place start q) l)
-    go (inr l) = by (late (place start q) l)
-
-bad_answer : {q names : List ℕ} {p : ℕ} {a : Outcome} → length q ≤ max_query_bytes → reading root 0 q ≡ bad p → a ≡ refusal 2 p → QueryRead q names a
+bad_answer : {q names : List ℕ} {p : ℕ} {r : Refusal} → length q ≤ max_query_bytes → reading root 0 q ≡ bad p → r ≡ wrong_at p → QueryRead q names (Err r)
 unfolding judged
-bad_answer {q} l e f = refused_answer (short_enough q l ∙ ap judged e) f
+bad_answer {q} l e f = refused_answer (short_enough q l ∙ ap judged e ∙ ap refused (sym f))
 
--- the first byte
+-- the first byte: dead, it decides, however long the query is
 
-pub empty_answer : {q names : List ℕ} {a : Outcome} → length q ≡ 0 → a ≡ refusal 2 0 → QueryRead q names a
-empty_answer {q} h f = bad_answer (omega arith) (empty_at q h) f
+first_answer : {q names : List ℕ} {r : Refusal} → reading root 0 q ≡ bad 0 → r ≡ wrong_at 0 → QueryRead q names (Err r)
+unfolding judged
+first_answer {q} e f = refused_answer (go (lt_or_ge max_query_bytes (length q)) ∙ ap refused (sym f))
+  where
+    go : (max_query_bytes < length q) ⊎ (length q ≤ max_query_bytes) → query_verdict q ≡ Verdict.refused 2 0
+    go (inl h) = too_long q h ∙ ap overlong (place_bad q e) ∙ early 0 (omega arith)
+    go (inr l) = short_enough q l ∙ ap judged e
 
-pub other_answer : {q names : List ℕ} {a : Outcome} → length q ≤ max_query_bytes → (length q ≡ 0 → ⊥) → (get_or q 0 0 ≡ 0x24 → ⊥) → a ≡ refusal 2 0 →
-    QueryRead q names a
-other_answer {q} l n g f = bad_answer l (other_at q n g) f
+pub empty_answer : {q names : List ℕ} {r : Refusal} → length q ≡ 0 → r ≡ wrong_at 0 → QueryRead q names (Err r)
+empty_answer {q} h f = first_answer (empty_at q h) f
+
+pub other_answer : {q names : List ℕ} {r : Refusal} → (length q ≡ 0 → ⊥) → (get_or q 0 0 ≡ 0x24 → ⊥) → r ≡ wrong_at 0 → QueryRead q names (Err r)
+other_answer {q} n g f = first_answer (other_at q n g) f
 
 -- the steps read so far, with their names among the names, and the place where reading goes on
 pub record SoFar (q names : List ℕ) (c : Compiled) (i : ℕ) : Type 0 where
@@ -136,23 +126,10 @@ begin_so_far {q} {names} {c} l n e f = record {
   reads = root_at q n e ∙ prepend_none (ended 1 (drop 1 q));
 }
 
--- a name of a step that was read stands in the query; a query that is short enough has it where the buffer has room
-found_stands : (q : List ℕ) (t : Taking) (n m : ℕ) → length q ≤ max_query_bytes → m ≤ length q → Bounded n m t → Stands q t
-found_stands q Every n m l h b = tt
-found_stands q (Name a e) n m l h b = (b.1, omega (arith, b.2), omega (arith, b.2))
-found_stands q (Position j) n m l h b = tt
-
 module _ {q names : List ℕ} {c : Compiled} {i : ℕ} (s : SoFar q names c i) where
-  pub so_far_stands : {f : Found} {m : ℕ} → StepTaken q i f m → Stands q f.taking
-  so_far_stands {f} {m} t = found_stands q f.taking i m s.short t.within t.bounded
-
-  -- there is room for one step more
-  pub so_far_room : (c.kinds.count ≡ max_steps → ⊥) → c.kinds.count < max_steps
-  so_far_room n = omega (arith, s.held.holds.fits.few)
-
-  pub so_far_more : {f : Found} {m : ℕ} {after : List ℕ} {one : Entry} {d : Compiled} → StepTaken q i f m → Decodes q f names after one →
-      Adds c one d → SoFar q after d m
-  so_far_more {f} {m} {after} {one} {d} t w more = record {
+  pub so_far_more : {f : Found} {m : ℕ} {after : List ℕ} {a : ℕ} {d : Compiled} → StepTaken q i f m → Decodes q f names after a → Adds c f a d →
+      SoFar q after d m
+  so_far_more {f} {m} {after} {a} {d} t w more = record {
     short = s.short;
     within = t.within;
     before = s.before ++ placed_at q f ∷ [];
@@ -162,12 +139,11 @@ module _ {q names : List ℕ} {c : Compiled} {i : ℕ} (s : SoFar q names c i) w
     reads = s.reads ∙ ap (prepend s.before) t.reads ∙ prepend_push s.before (placed_at q f) (reading done m (drop m q));
   }
 
-  pub so_far_refused : {r : StepRead} {p : ℕ} {a : Outcome} → StepAt q i r → tag_of the_type r ≡ 1 → p ≡ read_place r → a ≡ refusal 2 p →
-      QueryRead q names a
-  so_far_refused z t e f = bad_answer s.short (s.reads ∙ ap (prepend s.before) (step_refused z t ∙ ap bad (sym e))) f
+  pub so_far_refused : {p : ℕ} {r : Refusal} → StepRefused q i p → r ≡ wrong_at p → QueryRead q names (Err r)
+  so_far_refused t f = bad_answer s.short (s.reads ∙ ap (prepend s.before) t.reads) f
 
   -- the query ends
-  pub so_far_end : length q ≤ i → QueryRead q names (record { ground = 0; place = 0; steps = c })
+  pub so_far_end : length q ≤ i → QueryRead q names (Ok c)
   unfolding judged steps_in
   so_far_end h =
       let l = s.before in
@@ -176,26 +152,20 @@ module _ {q names : List ℕ} {c : Compiled} {i : ℕ} (s : SoFar q names c i) w
       let v : query_verdict q ≡ Verdict.taken =
       short_enough q s.short ∙ ap judged e ∙ few l (omega (arith, s.held.holds.fits.few, s.held.holds.count, length-steps l)) in
       let x : steps_in q ≡ steps_of l = ap (λ (r : Reading). steps_of (steps_read r)) e in
-      record {
-        ground = sym (ap (λ (v : Verdict). v.ground) v);
-        place = sym (ap (λ (v : Verdict). v.place) v);
-        steps =
-            subst (λ (v : Verdict). StepsFor q names v.ground c) (sym v)
-            (subst (λ (k : List Step). Holds names k c.kinds c.operands) (sym x) s.held.holds);
-      }
+      record { verdict = sym v; steps = subst (λ (k : List Step). Holds names k c.kinds c.operands) (sym x) s.held.holds }
 
   -- a 17th step stands there
-  pub so_far_many : {f : Found} {m : ℕ} {a : Outcome} → StepTaken q i f m → c.kinds.count ≡ max_steps →
-      a ≡ overflow f.place (rest_of (reading done m (drop m q))) → QueryRead q names a
+  pub so_far_many : {f : Found} {m : ℕ} {a : Refusal} → StepTaken q i f m → c.kinds.count ≡ max_steps →
+      a ≡ overflow f.place (rest_of (reading done m (drop m q))) → QueryRead q names (Err a)
   unfolding judged
   so_far_many {f} {m} {a} t n g = go (reading done m (drop m q)) (s.reads ∙ ap (prepend s.before) t.reads) g
     where
-      go : (r : Reading) → reading root 0 q ≡ prepend s.before (push (placed_at q f) r) → a ≡ overflow f.place (rest_of r) → QueryRead q names a
+      go : (r : Reading) → reading root 0 q ≡ prepend s.before (push (placed_at q f) r) → a ≡ overflow f.place (rest_of r) → QueryRead q names (Err a)
       go (good b) e g =
           let l = s.before in
           let k : List Placed = l ++ placed_at q f ∷ b.later in
           let z : length l ≡ max_steps = sym (length-steps l) ∙ sym s.held.holds.count ∙ n in
           refused_answer
           (short_enough q s.short ∙ ap judged e ∙ too_many k (omega (arith, length-append l (placed_at q f ∷ b.later))) ∙
-          ap (refused 3) (ap (λ (j : ℕ). place_of j k) (sym z) ∙ place_of_here l (placed_at q f) b.later)) g
+          ap (Verdict.refused 3) (ap (λ (j : ℕ). place_of j k) (sym z) ∙ place_of_here l (placed_at q f) b.later) ∙ ap refused (sym g))
       go (bad p) e g = bad_answer s.short e g

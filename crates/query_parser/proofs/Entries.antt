@@ -1,11 +1,10 @@
--- A step that was found, as one of the compiled form: a name is decoded in the buffer at its own place, and its bounds there are found again
+-- The operand of a step that was found: a name is decoded in the buffer at its own place, and its bounds there are found again
 -- in the number that they make. Assumes nothing.
 use mathlib.Core.Path.{◌≡◌, refl, ap, sym, subst, ◌∙◌}
 use mathlib.Core.List.{List, []}
 use mathlib.Core.Bool.{true, false, false≢true}
 use Prim.Native.Nat.{ℕ, ◌+◌, ◌*◌, ◌≤◌}
 use native.Mathlib.Omega.{arith}
-use denote.Enum.Declared.{tag_of}
 use lib.ListN.{length}
 use lib.Seq.{slice}
 use Rattle.encoding.specs.Points.{Utf8Of, utf8s, none}
@@ -23,10 +22,9 @@ use Rattle.query.specs.Written.{short_written, inner_written, segment_written}
 use Rattle.query_steps.specs.declared.Found.{Found}
 use Rattle.query_steps.specs.declared.Taking.{Taking}
 use Rattle.query_steps.specs.declared.Taking.TheVariants.{Every, Name, Position}
-use Rattle.query_steps.specs.contracts.Taking.{the_type}
 use Rattle.query_steps.specs.Reader.{selector_at, Bounded, StepTaken}
 use Rattle.query_parser.specs.Holds.{name_start_of, name_end_of}
-use Rattle.query_parser.specs.Compiles.{Compiles, Stands, Decodes}
+use Rattle.query_parser.specs.Compiles.{Stands, Decodes}
 
 -- what a name decodes to is the UTF-8 of the code points that are read from it
 abbrev Decodable : List ℕ → Type 0
@@ -53,31 +51,25 @@ never h = absurd (false≢true h)
 module _ (q : List ℕ) (f : Found) where
   -- `*`
 
-  every_compiles : (names : List ℕ) (m : ℕ) (t : Taking) → tag_of the_type t ≡ 0 →
-      Compiles names m (decoded_step (record { deep = f.deep; selector = selector_at q t }))
-      (record { deep = f.deep; every = true; named = false; positioned = false; operand = 0 })
+  pub every_found : {names : List ℕ} → f.taking ≡ Every → Decodes q f names names 0
   unfolding decoded_step decoded
-  every_compiles names m Every e = record {
-    deep = refl;
-    every = refl;
-    named = refl;
-    positioned = refl;
-    order = never;
-    within = never;
-    name = never;
-    position = never;
+  every_found e = record {
+    stays = λ t i j h. refl;
+    compiles = λ t. rw e (record {
+      deep = refl;
+      every = refl;
+      named = refl;
+      positioned = refl;
+      order = never;
+      within = never;
+      name = never;
+      position = never;
+    });
   }
-  every_compiles names m (Name a b) e = absurd (omega arith)
-  every_compiles names m (Position j) e = absurd (omega arith)
-
-  pub every_found : {names : List ℕ} → tag_of the_type f.taking ≡ 0 →
-      Decodes q f names names (record { deep = f.deep; every = true; named = false; positioned = false; operand = 0 })
-  every_found {names} e = record { stays = λ t i j h. refl; compiles = λ {n} {m} t. every_compiles names m f.taking e }
 
   -- a position
 
-  pub position_found : {names : List ℕ} {j : ℕ} → f.taking ≡ Position j →
-      Decodes q f names names (record { deep = f.deep; every = false; named = false; positioned = true; operand = j })
+  pub position_found : {names : List ℕ} {j : ℕ} → f.taking ≡ Position j → Decodes q f names names j
   unfolding decoded_step decoded
   position_found e = record {
     stays = λ t i j h. refl;
@@ -118,8 +110,7 @@ module _ (q : List ℕ) (f : Found) where
       end_back : name_end_of (a * 65536 + r) ≡ r
       end_back = omega arith
 
-      pub name_found :
-          Decodes q f before after (record { deep = f.deep; every = false; named = true; positioned = false; operand = a * 65536 + r })
+      pub name_found : Decodes q f before after (a * 65536 + r)
       unfolding decoded_step decoded
       name_found = record {
         stays = λ t i j k. written_below w start_within i j (omega (arith, name_bounds t));

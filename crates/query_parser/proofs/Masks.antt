@@ -14,12 +14,13 @@ use Rattle.bits.specs.Bits.{bit}
 use Rattle.encoding.specs.Points.{Utf8Of}
 use Rattle.query_parser.specs.declared.compiled.Compiled.{Compiled}
 use Rattle.query_parser.specs.declared.compiled.Kinds.{Kinds}
-use Rattle.query_parser.specs.declared.compiled.Entry.{Entry}
+use Rattle.query_steps.specs.declared.Found.{Found}
+use Rattle.query_steps.specs.declared.Taking.{Taking}
 use Rattle.query.specs.Steps.{Step, is_deep}
 use Rattle.query.specs.StepsLaws.{no_step_lem}
 use Rattle.query.specs.Verdict.{max_steps, max_query_bytes}
 use Rattle.query_parser.specs.Holds.{every_at, named_at, positioned_at, name_at, position_at, name_start_of, name_end_of}
-use Rattle.query_parser.specs.Compiles.{Compiles, HeldTo}
+use Rattle.query_parser.specs.Compiles.{takes_every, takes_name, takes_position, Compiles, HeldTo}
 
 -- names that end at n or before are not written over
 pub held_on : {before after : List ℕ} {n m : ℕ} {x : List Step} {c : Compiled} → n ≤ m
@@ -64,6 +65,10 @@ or_not true b = refl
 or_not false true = refl
 or_not false false = refl
 
+or_false : (a : Bool) → (a || false) ≡ a
+or_false true = refl
+or_false false = refl
+
 -- a mask of the steps x that says g of each, and the step s behind them
 module _ (x : List Step) (s : Step) (n : ℕ) (e : n ≡ length x) (g : Option Step → Bool) (z : g none ≡ false) (m r : ℕ) (v : Bool) (w : v ≡ g (some s))
     (new : (i : ℕ) → bit i r ≡ (bit i m || (v && eqb i n))) (old : (i : ℕ) → bit i m ≡ g (get_elem? x i)) where
@@ -95,17 +100,25 @@ module _ (x : List Step) (s : Step) (n : ℕ) (e : n ≡ length x) (g : Option S
           let other = elem_other s x i (λ y. k (y ∙ sym e)) in
           rw (other, get_or-set_other l n i a 0 k) (before i (old i ∙ sym (ap g other) ∙ sym (bit_more i) ∙ on))
 
-module _ (names : List ℕ) (m : ℕ) (x : List Step) (c : Kinds) (operands : List ℕ) (s : Step) (one : Entry) (d e n p : ℕ)
-    (deep : (i : ℕ) → bit i d ≡ (bit i c.deep || (one.deep && eqb i c.count)))
-    (every : (i : ℕ) → bit i e ≡ (bit i c.every || (one.every && eqb i c.count)))
-    (named : (i : ℕ) → bit i n ≡ (bit i c.named || (one.named && eqb i c.count)))
-    (positioned : (i : ℕ) → bit i p ≡ (bit i c.positioned || (one.positioned && eqb i c.count)))
+-- a mask of the steps that take as g says: a step that is found to do so adds its bit, and any other leaves the mask as it is
+pub added : (g : Taking → Bool) {t u : Taking} → t ≡ u → g u ≡ true → (m r n : ℕ) → ((i : ℕ) → bit i r ≡ (bit i m || (true && eqb i n))) →
+    (i : ℕ) → bit i r ≡ (bit i m || (g t && eqb i n))
+added g e f m r n new i = rw (e, f) (new i)
+
+pub kept : (g : Taking → Bool) {t u : Taking} → t ≡ u → g u ≡ false → (m n i : ℕ) → bit i m ≡ (bit i m || (g t && eqb i n))
+kept g e f m n i = rw (e, f) (sym (or_false (bit i m)))
+
+module _ (names : List ℕ) (m : ℕ) (x : List Step) (c : Kinds) (operands : List ℕ) (s : Step) (f : Found) (a d e n p : ℕ)
+    (deep : (i : ℕ) → bit i d ≡ (bit i c.deep || (f.deep && eqb i c.count)))
+    (every : (i : ℕ) → bit i e ≡ (bit i c.every || (takes_every f.taking && eqb i c.count)))
+    (named : (i : ℕ) → bit i n ≡ (bit i c.named || (takes_name f.taking && eqb i c.count)))
+    (positioned : (i : ℕ) → bit i p ≡ (bit i c.positioned || (takes_position f.taking && eqb i c.count)))
     (h : c.count < max_steps) (l : m ≤ max_query_bytes) (w : HeldTo names m x (record { kinds = c; operands = operands }))
-    (b : Compiles names m s one) where
+    (b : Compiles names m s f a) where
   abbrev more : Compiled
   more = record {
     kinds = record { count = c.count + 1; deep = d; every = e; named = n; positioned = p };
-    operands = set operands c.count one.operand;
+    operands = set operands c.count a;
   }
 
   pub held_more : HeldTo names m (x ++ s ∷ []) more
@@ -118,16 +131,16 @@ module _ (names : List ℕ) (m : ℕ) (x : List Step) (c : Kinds) (operands : Li
         within = of_names (λ a o. name_end_of a ≤ max_query_bytes) (λ y. omega (arith, b.within y)) w.holds.fits.within;
       };
       count = omega (arith, w.holds.count, length-append x (s ∷ []));
-      deep = bit_more x s c.count w.holds.count is_deep refl c.deep d one.deep b.deep deep w.holds.deep;
-      every = bit_more x s c.count w.holds.count every_at refl c.every e one.every b.every every w.holds.every;
-      named = bit_more x s c.count w.holds.count named_at refl c.named n one.named b.named named w.holds.named;
+      deep = bit_more x s c.count w.holds.count is_deep refl c.deep d f.deep b.deep deep w.holds.deep;
+      every = bit_more x s c.count w.holds.count every_at refl c.every e (takes_every f.taking) b.every every w.holds.every;
+      named = bit_more x s c.count w.holds.count named_at refl c.named n (takes_name f.taking) b.named named w.holds.named;
       positioned =
-          bit_more x s c.count w.holds.count positioned_at refl c.positioned p one.positioned b.positioned positioned
+          bit_more x s c.count w.holds.count positioned_at refl c.positioned p (takes_position f.taking) b.positioned positioned
           w.holds.positioned;
       name = of_names (λ a o. Utf8Of (slice (name_start_of a) (name_end_of a) names) (name_at o)) b.name w.holds.name;
       position =
-          operand_more x s c.count w.holds.count positioned_at refl c.positioned p one.positioned b.positioned positioned
-          w.holds.positioned (λ a o. a ≡ position_at o) operands one.operand room b.position w.holds.position;
+          operand_more x s c.count w.holds.count positioned_at refl c.positioned p (takes_position f.taking) b.positioned positioned
+          w.holds.positioned (λ a o. a ≡ position_at o) operands a room b.position w.holds.position;
     };
     ends = of_names (λ a o. name_end_of a ≤ m) b.within w.ends;
   }
@@ -135,9 +148,9 @@ module _ (names : List ℕ) (m : ℕ) (x : List Step) (c : Kinds) (operands : Li
       room : c.count < length operands
       room = omega (arith, w.holds.fits.operands_length)
 
-      of_names : (P : ℕ → Option Step → Type 0) → (one.named ≡ true → P one.operand (some s)) →
+      of_names : (P : ℕ → Option Step → Type 0) → (takes_name f.taking ≡ true → P a (some s)) →
           ((i : ℕ) → bit i c.named ≡ true → P (get_or operands i 0) (get_elem? x i)) →
-          (i : ℕ) → bit i n ≡ true → P (get_or (set operands c.count one.operand) i 0) (get_elem? (x ++ s ∷ []) i)
+          (i : ℕ) → bit i n ≡ true → P (get_or (set operands c.count a) i 0) (get_elem? (x ++ s ∷ []) i)
       of_names P =
-          operand_more x s c.count w.holds.count named_at refl c.named n one.named b.named named w.holds.named P operands
-          one.operand room
+          operand_more x s c.count w.holds.count named_at refl c.named n (takes_name f.taking) b.named named w.holds.named P operands
+          a room

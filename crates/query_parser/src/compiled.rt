@@ -15,7 +15,7 @@ const BOUND: u64 = 65_536;
 
 // The kinds of a query's steps: how many steps there are, and for each the bit of its number in the masks of deep steps, of those that
 // take `*`, of those that take a name and of those that take a position.
-#[derive(Clone, Copy)]
+#[derive(Clone, Copy, Debug, Default, PartialEq, Eq)]
 pub struct Kinds {
     pub count: usize,
     pub deep: u16,
@@ -29,17 +29,7 @@ pub struct Kinds {
 #[derive(Drop)]
 pub struct Compiled {
     pub kinds: Kinds,
-    pub operands: [u64; 16],
-}
-
-// One step in this form: its bit of each mask, and its operand.
-#[derive(Drop)]
-pub struct Entry {
-    pub deep: bool,
-    pub every: bool,
-    pub named: bool,
-    pub positioned: bool,
-    pub operand: u64,
+    pub operands: [u64; MAX_STEPS],
 }
 
 // The place of the first byte of a name, from its step's operand.
@@ -61,68 +51,41 @@ pub fn no_steps() -> Compiled
     ensures { result ≡ no_steps_of }
 {
     Compiled {
-        kinds: Kinds {
-            count: 0,
-            deep: 0,
-            every: 0,
-            named: 0,
-            positioned: 0,
-        },
-        operands: [0u64; MAX_STEPS],
+        kinds: Kinds::default(),
+        operands: [0; MAX_STEPS],
     }
 }
 
-// The step that was found. Its name goes decoded into the buffer, from the place on that it has in the query. The slice `all` is there for
-// the proof: it has the length of the array, which `write_name` asks.
-pub fn entry_of(query: &[u8], found: Found, names: &mut Names) -> Entry
+// The operand of a step. A name goes decoded into the buffer, from the place on that it has in the query.
+pub fn decode(query: &[u8], found: Found, names: &mut Names) -> u64
     requires { Stands query.now found.taking }
     ensures { Decodes query.now found names.old names.new result }
 {
-    let taking = found.taking;
-    match taking {
-        Taking::Every => Entry {
-            deep: found.deep,
-            every: true,
-            named: false,
-            positioned: false,
-            operand: 0,
-        },
+    match found.taking {
+        Taking::Every => 0,
         Taking::Name(start, stop) => {
-            let all: &[u8] = names;
-            let end = write_name(query, start, stop, names);
-            Entry {
-                deep: found.deep,
-                every: false,
-                named: true,
-                positioned: false,
-                operand: start as u64 * BOUND + end as u64,
-            }
+            let end = write_name(&query[start..stop], names, start);
+            start as u64 * BOUND + end as u64
         }
-        Taking::Position(position) => Entry {
-            deep: found.deep,
-            every: false,
-            named: false,
-            positioned: true,
-            operand: position,
-        },
+        Taking::Position(position) => position,
     }
 }
 
-// The steps with one more, for which there is room.
-pub fn add(steps: Compiled, one: Entry) -> Compiled
-    requires { steps.kinds.count < max_steps }
-    ensures { Adds steps one result }
-{
-    let old = steps.kinds;
-    let k = old.count;
-    let mut operands = steps.operands;
-    operands[k] = one.operand;
-    let kinds = Kinds {
-        count: k + 1,
-        deep: bits::with_bit(old.deep, k, one.deep),
-        every: bits::with_bit(old.every, k, one.every),
-        named: bits::with_bit(old.named, k, one.named),
-        positioned: bits::with_bit(old.positioned, k, one.positioned),
-    };
-    Compiled { kinds, operands }
+impl Compiled {
+    // Adds a step with its operand, for which there is room.
+    pub fn push(&mut self, found: Found, operand: u64)
+        requires { self.old.kinds.count < max_steps }
+        ensures { Adds self.old found operand self.new }
+    {
+        let kinds = &mut self.kinds;
+        let k = kinds.count;
+        kinds.deep = bits::with_bit(kinds.deep, k, found.deep);
+        match found.taking {
+            Taking::Every => kinds.every = bits::with_bit(kinds.every, k, true),
+            Taking::Name(_, _) => kinds.named = bits::with_bit(kinds.named, k, true),
+            Taking::Position(_) => kinds.positioned = bits::with_bit(kinds.positioned, k, true),
+        }
+        kinds.count = k + 1;
+        self.operands[k] = operand;
+    }
 }

@@ -4,144 +4,109 @@
 mod compiled;
 
 ghost use Rattle.std.specs.Prelude.{◌≡◌, ◌≤◌, length, drop};
-ghost use Rattle.encoding.specs.RowTable.{RowTable};
 ghost use Rattle.query.specs.Machine.{done, place, start};
 ghost use Rattle.query.specs.Read.{reading};
 ghost use Rattle.query.specs.Verdict.{overlong};
-ghost use Rattle.query_parser.specs.Answer.{refusal, refusal_by, rest_of, overflow, QueryRead};
+ghost use Rattle.encoding.specs.Refusals.{refused};
+ghost use Rattle.query_parser.specs.Answer.{wrong_at, rest_of, overflow, QueryRead};
 
 pub use compiled::{Compiled, Kinds, name_end, name_start};
-use encoding::Rows;
+use encoding::{Dead, Ground, Refusal};
 use names::Names;
-use query_steps::StepRead;
+use query_steps::read_step;
 
 const MAX_QUERY_BYTES: usize = 1024;
 
 const ROOT: u8 = b'$';
 
-// The grounds for refusing a query: too many bytes, not in the grammar, too many steps.
-const TOO_LONG: u8 = 1;
-
-const WRONG: u8 = 2;
-
-const TOO_MANY: u8 = 3;
-
-// A query read: ground 0, place 0 and its steps; or the ground and the place of a refusal, and no steps.
-#[derive(Drop)]
-pub struct Outcome {
-    pub ground: u8,
-    pub place: usize,
-    pub steps: Compiled,
-}
-
-// A refusal.
-fn refuse(ground: u8, place: usize) -> Outcome
-    ensures { result ≡ refusal ground place }
+// The refusal of a query that is not in the grammar, by its dead byte.
+fn wrong(dead: Dead) -> Refusal
+    ensures { result ≡ wrong_at dead.at }
 {
-    Outcome {
-        ground,
-        place,
-        steps: compiled::no_steps(),
+    Refusal {
+        ground: Ground::QueryWrong,
+        place: dead.at,
     }
 }
 
-// What stands from a place of a query on: steps, up to its end; or something else, and the place of the dead byte.
-#[derive(Drop)]
-enum Rest {
-    Steps,
-    Dead(usize),
-}
-
-// What stands from `at` on.
-fn read_rest(rows: &Rows, query: &[u8], at: usize) -> Rest
-    requires { (at ≤ length query.now) × RowTable rows.now }
+// Whether steps stand from `at` on up to the query's end; else the dead byte.
+fn read_rest(query: &[u8], at: usize) -> Result<(), Dead>
+    requires { at ≤ length query.now }
     ensures { result ≡ rest_of (reading done at (drop at query.now)) }
 {
     let mut i = at;
     while i < query.len() {
-        let next = query_steps::read_step(rows, query, i);
-        let StepRead::Taken(_, after) = next else {
-            return Rest::Dead(query_steps::place_of(next));
-        };
+        let (_, after) = read_step(query, i)?;
         i = after;
     }
-    Rest::Steps
+    Ok(())
 }
 
 // The refusal of a query whose 17th step begins at `place`: ground 3, if the rest of it, from `at` on, is in the grammar, and else
 // ground 2.
-fn too_many(rows: &Rows, query: &[u8], place: usize, at: usize) -> Outcome
-    requires { (at ≤ length query.now) × RowTable rows.now }
+fn too_many(query: &[u8], place: usize, at: usize) -> Refusal
+    requires { at ≤ length query.now }
     ensures { result ≡ overflow place (rest_of (reading done at (drop at query.now))) }
 {
-    let Rest::Dead(dead) = read_rest(rows, query, at) else {
-        return refuse(TOO_MANY, place);
-    };
-    refuse(WRONG, dead)
+    match read_rest(query, at) {
+        Ok(()) => Refusal {
+            ground: Ground::TooManySteps,
+            place,
+        },
+        Err(dead) => wrong(dead),
+    }
 }
 
 // The place of a query's dead byte, or its length where it has none.
 fn dead_place(query: &[u8]) -> usize
     ensures { result ≡ place start query.now }
 {
-    if query.len() == 0 {
+    let Some(&ROOT) = query.first() else {
         return 0;
-    }
-    if query[0] != ROOT {
-        return 0;
-    }
-    let rows = encoding::rows();
-    let Rest::Dead(dead) = read_rest(&rows, query, 1) else {
-        return query.len();
     };
-    dead
+    match read_rest(query, 1) {
+        Ok(()) => query.len(),
+        Err(dead) => dead.at,
+    }
 }
 
 // The refusal of a query of more than 1,024 bytes, which begins with `first`, 1,024 of them: ground 2, if one of these is dead, and else
 // ground 1.
-fn too_long(first: &[u8]) -> Outcome
-    ensures { result ≡ refusal_by (overlong (place start first.now)) }
+fn too_long(first: &[u8]) -> Refusal
+    ensures { refused result ≡ overlong (place start first.now) }
 {
-    let dead = dead_place(first);
-    if dead < MAX_QUERY_BYTES {
-        return refuse(WRONG, dead);
+    let at = dead_place(first);
+    if at < MAX_QUERY_BYTES {
+        return wrong(Dead { at });
     }
-    refuse(TOO_LONG, MAX_QUERY_BYTES)
+    Refusal {
+        ground: Ground::QueryTooLong,
+        place: MAX_QUERY_BYTES,
+    }
 }
 
-// Reads a query: grounds 1 to 3 with their places, and its steps where it is taken, with their names decoded. Of a query that is too long
-// only the first 1,024 bytes are read.
-pub fn read_query(query: &[u8], names: &mut Names) -> Outcome
+// Reads a query: its steps, with their names decoded, or the first of grounds 1 to 3 that fits. Of a query that is too long only the first
+// 1,024 bytes are read.
+pub fn read_query(query: &[u8], names: &mut Names) -> Result<Compiled, Refusal>
     ensures { QueryRead query.now names.new result }
 {
     if query.len() > MAX_QUERY_BYTES {
-        return too_long(&query[..MAX_QUERY_BYTES]);
+        return Err(too_long(&query[..MAX_QUERY_BYTES]));
     }
-    if query.len() == 0 {
-        return refuse(WRONG, 0);
-    }
-    if query[0] != ROOT {
-        return refuse(WRONG, 0);
-    }
-    let rows = encoding::rows();
+    let Some(&ROOT) = query.first() else {
+        return Err(wrong(Dead { at: 0 }));
+    };
     let mut steps = compiled::no_steps();
     let mut at: usize = 1;
     while at < query.len() {
-        let read = query_steps::read_step(&rows, query, at);
-        let StepRead::Taken(found, after) = read else {
-            return refuse(WRONG, query_steps::place_of(read));
-        };
+        let (found, after) = read_step(query, at).map_err(wrong)?;
         let full = steps.kinds.count == compiled::MAX_STEPS;
         if full {
-            return too_many(&rows, query, found.place, after);
+            return Err(too_many(query, found.place, after));
         }
-        let one = compiled::entry_of(query, found, names);
-        steps = compiled::add(steps, one);
+        let operand = compiled::decode(query, found, names);
+        steps.push(found, operand);
         at = after;
     }
-    Outcome {
-        ground: 0,
-        place: 0,
-        steps,
-    }
+    Ok(steps)
 }

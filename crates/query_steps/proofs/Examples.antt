@@ -1,7 +1,7 @@
 -- What the promise of a step rules out, also where the rest of the query is broken: no step from 1 on in `$.a!` has another place than 1,
 -- none in `$[4294967296]` takes another position, none in `$['\u006cot']` another name than lot, and none stands in `$[00]`, in
 -- `$[9007199254740992]` and in `$['\uDC00']`, whose dead bytes are the ones at 3, 17 and 6. Assumes nothing.
-use Rattle.std.specs.Prelude.{◌≡◌, Bool, ◌&&◌, length, drop}
+use Rattle.std.specs.Prelude.{◌≡◌, Bool, ◌&&◌, Result, Ok, Err, length, drop}
 use Rattle.std.proofs.Math.Path.{refl, ap}
 use Rattle.std.proofs.Common.{sym, ◌∙◌}
 use mathlib.Core.List.{List, [], ◌∷◌}
@@ -14,6 +14,7 @@ use Rattle.std.proofs.Math.ListN.{get_or}
 use Rattle.std.proofs.Math.Seq.{slice, slice-cons}
 use Rattle.encoding.specs.Bytes as B
 use Rattle.encoding.specs.Bytes.{Blank, Blanks, blank_byte, put_blanks}
+use Rattle.encoding.specs.declared.Dead.{Dead}
 use Rattle.query.specs.Grammar.{Segment, put_spaced, put_query, text}
 use Rattle.query.specs.Steps as S
 use Rattle.query.specs.Steps.{Selector}
@@ -22,11 +23,8 @@ use Rattle.query.specs.Read.{Placed, Reading, good, bad, reading, steps_read}
 use Rattle.query.specs.Verdict.{decoded}
 use Rattle.query.proofs.Place.{accepts_text}
 use Rattle.query_steps.specs.declared.Found.{Found}
-use Rattle.query_steps.specs.declared.StepRead.{StepRead}
-use Rattle.query_steps.specs.declared.StepRead.TheVariants.{Refused}
 use Rattle.query_steps.specs.declared.Taking.{Taking}
 use Rattle.query_steps.specs.declared.Taking.TheVariants.{Every, Name, Position}
-use Rattle.query_steps.specs.Reader
 use Rattle.query_steps.specs.Reader.{selector_at, placed_at, push, StepTaken, StepAt}
 
 -- where no blank stands the step begins at once
@@ -99,6 +97,10 @@ abbrev dead_at : Reading → ℕ
 dead_at (good a) = 0
 dead_at (bad p) = p
 
+-- a refusal, by its place
+abbrev refused : ℕ → Result (Found × ℕ) Dead
+refused p = Err (record { at = p })
+
 -- where the byte at p is dead, and neither one nor more of the bytes from n on are a step, reading a step refuses p
 module _ (q : List ℕ) (n : ℕ) where
   -- so many of them, up to k, are none
@@ -118,18 +120,19 @@ module _ (q : List ℕ) (n : ℕ) where
       go true f false g y again = false≢true (sym g ∙ ap (λ (i : ℕ). accept (run start (0x24 ∷ slice n i q))) (sym (eqb-true m (n + suc k) f)) ∙ x)
       go false f false g y again = again y (omega (arith, eqb-false m (n + suc k) f))
 
-  refused_only : no_step (length q) ≡ true → (p : ℕ) → reading done n (drop n q) ≡ bad p → (r : StepRead) → StepAt q n r → r ≡ Refused p
+  refused_only : no_step (length q) ≡ true → (p : ℕ) → reading done n (drop n q) ≡ bad p → (r : Result (Found × ℕ) Dead) → StepAt q n r →
+      r ≡ refused p
   unfolding text put_query
-  refused_only e p g r (Reader.StepAt.taken f m t) =
+  refused_only e p g (Ok (f, m)) t =
       absurd (no_step_lem (length q) e m t.on (omega (arith, t.within)) (accepts_text (0x24 ∷ slice n m q)
       (record { tree = t.spaced ∷ []; written = ap (λ (s : List ℕ). 0x24 ∷ s) t.written })))
-  refused_only e p g r (Reader.StepAt.refused k t) = ap Refused (ap dead_at (sym t.reads ∙ g))
+  refused_only e p g (Err d) t = ap refused (ap dead_at (sym t.reads ∙ g))
 
 -- `$[00]`
 abbrev zeros : List ℕ
 zeros = 0x24 ∷ 0x5B ∷ 0x30 ∷ 0x30 ∷ 0x5D ∷ []
 
-leading_zero : (r : StepRead) → StepAt zeros 1 r → r ≡ Refused 3
+leading_zero : (r : Result (Found × ℕ) Dead) → StepAt zeros 1 r → r ≡ refused 3
 unfolding reading no_step
 leading_zero = refused_only zeros 1 refl 3 refl
 
@@ -137,7 +140,7 @@ leading_zero = refused_only zeros 1 refl 3 refl
 abbrev beyond : List ℕ
 beyond = 0x24 ∷ 0x5B ∷ 0x39 ∷ 0x30 ∷ 0x30 ∷ 0x37 ∷ 0x31 ∷ 0x39 ∷ 0x39 ∷ 0x32 ∷ 0x35 ∷ 0x34 ∷ 0x37 ∷ 0x34 ∷ 0x30 ∷ 0x39 ∷ 0x39 ∷ 0x32 ∷ 0x5D ∷ []
 
-past_maximum : (r : StepRead) → StepAt beyond 1 r → r ≡ Refused 17
+past_maximum : (r : Result (Found × ℕ) Dead) → StepAt beyond 1 r → r ≡ refused 17
 unfolding reading no_step
 past_maximum = refused_only beyond 1 refl 17 refl
 
@@ -145,6 +148,6 @@ past_maximum = refused_only beyond 1 refl 17 refl
 abbrev low_half : List ℕ
 low_half = 0x24 ∷ 0x5B ∷ 0x27 ∷ 0x5C ∷ 0x75 ∷ 0x44 ∷ 0x43 ∷ 0x30 ∷ 0x30 ∷ 0x27 ∷ 0x5D ∷ []
 
-low_half_alone : (r : StepRead) → StepAt low_half 1 r → r ≡ Refused 6
+low_half_alone : (r : Result (Found × ℕ) Dead) → StepAt low_half 1 r → r ≡ refused 6
 unfolding reading no_step
 low_half_alone = refused_only low_half 1 refl 6 refl

@@ -1,5 +1,6 @@
 -- One step of a query: each part of it that a scan passed leads the reading on, and what stands there is a segment of the grammar.
 -- Assumes nothing.
+use Rattle.std.specs.Prelude.{Result, Ok, Err}
 use mathlib.Core.Path.{◌≡◌, refl, ap, ap₂, sym, subst, ◌∙◌}
 use mathlib.Core.List.{List, [], ◌∷◌, ◌++◌}
 use mathlib.Core.Bool.{Bool, true, false}
@@ -12,9 +13,7 @@ use Rattle.encoding.specs.BytesLaws.{byte_at_lem}
 use Rattle.encoding.specs.Bytes as B
 use Rattle.encoding.specs.Bytes.{Blanks, put_blanks}
 use Rattle.encoding.specs.Prefix.{DeadPlace}
-use Rattle.query_steps.specs.declared.Found.{Found}
-use Rattle.query_steps.specs.declared.StepRead.{StepRead}
-use Rattle.query_steps.specs.declared.StepRead.TheVariants.{Taken, Refused}
+use Rattle.encoding.specs.declared.Dead.{Dead}
 use Rattle.query_steps.specs.declared.Taking.{Taking}
 use Rattle.query_steps.specs.declared.Taking.TheVariants.{Every, Name, Position}
 use Rattle.query.specs.Grammar as G
@@ -35,9 +34,8 @@ use Rattle.query.proofs.Ended.{Ended, clean, cut, ended}
 use Rattle.query.proofs.At.{byte_is, written_slice, end_at, stop_at, turn_at, kept_at}
 use Rattle.query.specs.Append.{append_chars, append-spaced}
 use Rattle.query.proofs.Place.{Tells, well, ill, tells, accepts_text, dead_place}
-use Rattle.query_lexer.specs.Scans.{BlankIs, other, Skipped, spelt, deeper_byte, ShortName, QuotedName, PositionAt}
-use Rattle.query_steps.specs.Reader
-use Rattle.query_steps.specs.Reader.{depth_of, selector_at, Bounded, choose, push, Closed, Begun, SegmentAt, PartRead, StepAt}
+use Rattle.query_lexer.specs.Scans.{BlankIs, other, Skipped, deeper_byte, ShortName, QuotedName, PositionAt}
+use Rattle.query_steps.specs.Reader.{depth_of, selector_at, Bounded, choose, push, BracketClosed, Begun, SegmentAt, PartTaken, PartRead, StepTaken, StepRefused}
 use Rattle.query_steps.proofs.Skips.{blanks_far, over_blanks, blanks_behind}
 
 -- what a step takes, before what is read behind it
@@ -96,22 +94,22 @@ step_is : (x : Bool) {a b : Selector} → a ≡ b → ◌≡◌ {A = S.Step} (re
 step_is x e = ap₂ (λ (d : Bool) (y : Selector). record { deep = d; selector = y }) (sym (deep_is x)) e
 
 -- the closing bracket
-module _ {q : List ℕ} {f : Found} {n r : ℕ} (s : Skipped q n r) where
-  pub close_end : length q ≤ r → Closed q f n (Refused r)
-  close_end h = Reader.Closed.refused r (over_blanks s closing blank_closing refl ∙ end_at closing q r h refl)
+module _ {q : List ℕ} {n r : ℕ} (s : Skipped q n r) where
+  pub close_end : length q ≤ r → reading closing n (drop n q) ≡ bad r
+  close_end h = over_blanks s closing blank_closing refl ∙ end_at closing q r h refl
 
-  pub close_other : r < length q → (get_or q r 0 ≡ 0x5D → ⊥) → Closed q f n (Refused r)
-  close_other h g = Reader.Closed.refused r (over_blanks s closing blank_closing refl ∙ stop_at closing q r h (other_closing (s.next h) g))
+  pub close_other : r < length q → (get_or q r 0 ≡ 0x5D → ⊥) → reading closing n (drop n q) ≡ bad r
+  close_other h g = over_blanks s closing blank_closing refl ∙ stop_at closing q r h (other_closing (s.next h) g)
 
-  pub close_taken : r < length q → get_or q r 0 ≡ 0x5D → Closed q f n (Taken f (r + 1))
+  pub close_taken : r < length q → get_or q r 0 ≡ 0x5D → BracketClosed q n (r + 1)
   unfolding step
   close_taken h e =
-      Reader.Closed.taken (r + 1) (record {
+      record {
         on = omega (arith, s.from);
         within = omega arith;
         stand = (s.stand.0, ap (put_blanks s.stand.0) (sym (byte_is q r h e)) ∙ s.stand.1);
         reads = over_blanks s closing blank_closing refl ∙ kept_at closing q r h done (ap (step (M.at closing)) e) refl;
-      })
+      }
 
 -- what stands between two places stands between places further apart
 bounded_wider : {n k m o : ℕ} (t : Taking) → n ≤ k → m ≤ o → Bounded k m t → Bounded n o t
@@ -120,54 +118,51 @@ bounded_wider (Name x y) l h (a, b, c) = (omega arith, b, omega arith)
 bounded_wider (Position j) l h b = b
 
 -- a part of a step, from where its first bytes and the reading were led on
-pub part_from : {q : List ℕ} {c k : Control} {n m place : ℕ} {deep : Bool} {r : StepRead} → n ≤ m →
-    (Begun q place (depth_of deep) c n → Begun q place (depth_of deep) k m) →
-    reading c n (drop n q) ≡ reading k m (drop m q) → PartRead q k m place deep r → PartRead q c n place deep r
-part_from l b e (Reader.PartRead.taken f o t) = Reader.PartRead.taken f o (record {
-  place = t.place;
-  depth = t.depth;
-  bounded = bounded_wider f.taking l (omega arith) t.bounded;
-  on = omega (arith, t.on);
-  within = t.within;
-  stands = λ x. t.stands (b x);
-  reads = e ∙ t.reads;
-})
-part_from l b e (Reader.PartRead.refused p g) = Reader.PartRead.refused p (e ∙ g)
+pub part_from : (q : List ℕ) (c k : Control) {n m : ℕ} → n ≤ m →
+    ((place : ℕ) (deep : Bool) → Begun q place (depth_of deep) c n → Begun q place (depth_of deep) k m) →
+    reading c n (drop n q) ≡ reading k m (drop m q) → (r : Result (Taking × ℕ) Dead) → PartRead q k m r → PartRead q c n r
+part_from q c k l b e (Ok (t, o)) p = record {
+  bounded = bounded_wider t l (omega arith) p.bounded;
+  on = omega (arith, p.on);
+  within = p.within;
+  stands = λ place deep x. p.stands place deep (b place deep x);
+  reads = e ∙ p.reads;
+}
+part_from q c k l b e (Err d) p = e ∙ p
 
 -- what was read in brackets, and their end
-module _ (q : List ℕ) (c : Control) (n k : ℕ) (f : Found) (said : Reading → Reading) (l : n ≤ k) (b : Bounded n k f.taking)
-    (bads : (p : ℕ) → said (bad p) ≡ bad p) (chooses : (r : Reading) → Ended r → said r ≡ choose (selector_at q f.taking) r)
-    (stands : (m : ℕ) (w : Blanks) → put_blanks w (0x5D ∷ drop m q) ≡ drop k q → Begun q f.place (depth_of f.deep) c n → SegmentAt q f m)
+module _ (q : List ℕ) (c : Control) (n k : ℕ) (t : Taking) (said : Reading → Reading) (l : n ≤ k) (b : Bounded n k t)
+    (bads : (p : ℕ) → said (bad p) ≡ bad p) (chooses : (r : Reading) → Ended r → said r ≡ choose (selector_at q t) r)
+    (stands : (m : ℕ) (w : Blanks) → put_blanks w (0x5D ∷ drop m q) ≡ drop k q → (place : ℕ) (deep : Bool) → Begun q place (depth_of deep) c n →
+    SegmentAt q (record { deep = deep; place = place; taking = t }) m)
     (e : reading c n (drop n q) ≡ said (reading closing k (drop k q))) where
-  close_part : {a : StepRead} → Closed q f k a → PartRead q c n f.place f.deep a
-  close_part (Reader.Closed.taken m t) = Reader.PartRead.taken f m (record {
-    place = refl;
-    depth = refl;
-    bounded = bounded_wider f.taking (omega arith) (omega (arith, t.on)) b;
-    on = omega (arith, t.on);
-    within = t.within;
-    stands = stands m t.stand.0 t.stand.1;
-    reads = e ∙ ap said t.reads ∙ chooses (reading done m (drop m q)) (ended m (drop m q));
-  })
-  close_part (Reader.Closed.refused p g) = Reader.PartRead.refused p (e ∙ ap said g ∙ bads p)
+  closed_part : {m : ℕ} → BracketClosed q k m → PartTaken q c n t m
+  closed_part {m} z = record {
+    bounded = bounded_wider t (omega arith) (omega (arith, z.on)) b;
+    on = omega (arith, z.on);
+    within = z.within;
+    stands = stands m z.stand.0 z.stand.1;
+    reads = e ∙ ap said z.reads ∙ chooses (reading done m (drop m q)) (ended m (drop m q));
+  }
 
-abbrev name_found : ℕ → Bool → ℕ → ℕ → Found
-name_found place d a b = record { deep = d; place = place; taking = Name a b }
-
-abbrev every_found : ℕ → Bool → Found
-every_found place d = record { deep = d; place = place; taking = Every }
-
-abbrev position_found : ℕ → Bool → ℕ → Found
-position_found place d j = record { deep = d; place = place; taking = Position j }
+  open_part : {p : ℕ} → reading closing k (drop k q) ≡ bad p → reading c n (drop n q) ≡ bad p
+  open_part {p} g = e ∙ ap said g ∙ bads p
 
 -- a quoted name
-module _ {q : List ℕ} {quote n place : ℕ} {deep ok : Bool} {r : ℕ} (s : QuotedName q quote n ok r) where
-  quoted_segment : ok ≡ true → (x : Quote) → quote ≡ quote_byte x → (m : ℕ) (v : Blanks) → put_blanks v (0x5D ∷ drop m q) ≡ drop (r + 1) q →
-      Begun q place (depth_of deep) (inside (quoted x)) n → SegmentAt q (name_found place deep n r) m
+module _ {q : List ℕ} {quote n r : ℕ} (s : QuotedName q quote n true r) (x : Quote) (z : quote ≡ quote_byte x) where
+  name_read : reading (inside (quoted x)) n (drop n q) ≡ spell (slice n r q) (reading closing (r + 1) (drop (r + 1) q))
+  name_read =
+      let c = s.closed refl in
+      s.reads x z ∙
+      ap (spell (slice n r q)) (kept_at (inside (quoted x)) q r c.1 closing
+      (ap (step (M.at (inside (quoted x)))) (c.2 ∙ z) ∙ quote_closes x) refl)
+
+  quoted_segment : (m : ℕ) (v : Blanks) → put_blanks v (0x5D ∷ drop m q) ≡ drop (r + 1) q → (place : ℕ) (deep : Bool) →
+      Begun q place (depth_of deep) (inside (quoted x)) n → SegmentAt q (record { deep = deep; place = place; taking = Name n r }) m
   unfolding put_segment segment_written
-  quoted_segment e x z m v f (w, b) =
-      let c = s.closed e in
-      let (cs, t) = s.stand e x z in
+  quoted_segment m v f place deep (w, b) =
+      let c = s.closed refl in
+      let (cs, t) = s.stand refl x z in
       let d : Depth = depth_of deep in
       let end : quote_byte x ∷ put_blanks v (0x5D ∷ drop m q) ≡ drop r q =
       ap (λ (u : List ℕ). quote_byte x ∷ u) f ∙ sym (byte_is q r c.1 (c.2 ∙ z)) in
@@ -177,28 +172,21 @@ module _ {q : List ℕ} {quote n place : ℕ} {deep ok : Bool} {r : ℕ} (s : Qu
         step = step_is deep (ap S.name (sym (written_slice q (put_chars cs []) n r c.0 s.within (sym (append_chars cs [] (drop r q)) ∙ t))));
       }
 
-  pub quoted_refused : ok ≡ false → (x : Quote) → quote ≡ quote_byte x → PartRead q (inside (quoted x)) n place deep (Refused r)
-  quoted_refused e x z = Reader.PartRead.refused r (s.reads x z ∙ ap (λ (b : Bool). spelt q (inside (quoted x)) n b r) e)
+  pub quoted_open : {p : ℕ} → reading closing (r + 1) (drop (r + 1) q) ≡ bad p → reading (inside (quoted x)) n (drop n q) ≡ bad p
+  quoted_open {p} g = name_read ∙ ap (spell (slice n r q)) g ∙ spell_bad (slice n r q) p
 
-  pub quoted_taken : ok ≡ true → {a : StepRead} → Closed q (name_found place deep n r) (r + 1) a → (x : Quote) → quote ≡ quote_byte x →
-      PartRead q (inside (quoted x)) n place deep a
-  quoted_taken e d x z =
-      let c = s.closed e in
-      close_part q (inside (quoted x)) n (r + 1) (name_found place deep n r) (spell (slice n r q)) (omega (arith, c.0))
-      (omega arith, c.0, omega arith)
-      (spell_bad (slice n r q)) (choose_name (slice n r q))
-      (quoted_segment e x z)
-      (s.reads x z ∙ ap (λ (b : Bool). spelt q (inside (quoted x)) n b r) e ∙
-      ap (spell (slice n r q)) (kept_at (inside (quoted x)) q r c.1 closing
-      (ap (step (M.at (inside (quoted x)))) (c.2 ∙ z) ∙ quote_closes x) refl))
-      d
+  pub quoted_taken : {m : ℕ} → BracketClosed q (r + 1) m → PartTaken q (inside (quoted x)) n (Name n r) m
+  quoted_taken =
+      let c = s.closed refl in
+      closed_part q (inside (quoted x)) n (r + 1) (Name n r) (spell (slice n r q)) (omega (arith, c.0)) (omega arith, c.0, omega arith)
+      (spell_bad (slice n r q)) (choose_name (slice n r q)) quoted_segment name_read
 
 -- a position
-module _ {q : List ℕ} {n place : ℕ} {deep : Bool} {r j : ℕ} (s : PositionAt q n r j) where
-  position_segment : (m : ℕ) (v : Blanks) → put_blanks v (0x5D ∷ drop m q) ≡ drop r q →
-      Begun q place (depth_of deep) opened n → SegmentAt q (position_found place deep j) m
+module _ {q : List ℕ} {n r j : ℕ} (s : PositionAt q n r j) where
+  position_segment : (m : ℕ) (v : Blanks) → put_blanks v (0x5D ∷ drop m q) ≡ drop r q → (place : ℕ) (deep : Bool) →
+      Begun q place (depth_of deep) opened n → SegmentAt q (record { deep = deep; place = place; taking = Position j }) m
   unfolding put_segment segment_written
-  position_segment m v f (w, b) =
+  position_segment m v f place deep (w, b) =
       let (p, t, e) = s.stands in
       let d : Depth = depth_of deep in
       record {
@@ -207,211 +195,221 @@ module _ {q : List ℕ} {n place : ℕ} {deep : Bool} {r j : ℕ} (s : PositionA
         step = step_is deep (ap S.position (sym e));
       }
 
-  pub position_taken : {a : StepRead} → Closed q (position_found place deep j) r a → PartRead q opened n place deep a
-  position_taken z =
-      close_part q opened n r (position_found place deep j) (note (R.position j) 0 0) (omega (arith, s.on)) s.small
-      (λ p. refl) (choose_position j) position_segment s.reads z
+  pub position_taken : {m : ℕ} → BracketClosed q r m → PartTaken q opened n (Position j) m
+  position_taken =
+      closed_part q opened n r (Position j) (note (R.position j) 0 0) (omega (arith, s.on)) s.small
+      (λ p. refl) (choose_position j) position_segment s.reads
+
+  pub position_open : {p : ℕ} → reading closing r (drop r q) ≡ bad p → reading opened n (drop n q) ≡ bad p
+  position_open g = s.reads ∙ ap (note (R.position j) 0 0) g
 
 -- in brackets, behind the blanks
-module _ {q : List ℕ} {n r : ℕ} (s : Skipped q n r) {place : ℕ} {deep : Bool} where
-  pub over_opened : {a : StepRead} → PartRead q opened r place deep a → PartRead q opened n place deep a
-  over_opened z =
-      part_from s.from
-      (λ (w, b). (
+module _ {q : List ℕ} {n r : ℕ} (s : Skipped q n r) where
+  pub over_opened : (a : Result (Taking × ℕ) Dead) → PartRead q opened r a → PartRead q opened n a
+  over_opened =
+      part_from q opened opened s.from
+      (λ place deep (w, b). (
         w ++ s.stand.0,
         ap (λ (u : List ℕ). put_deep (depth_of deep) (0x5B ∷ u)) (blanks_behind w s.stand.0 (drop r q) ∙ ap (put_blanks w) s.stand.1) ∙ b,
       ))
-      (over_blanks s opened blank_opened refl) z
+      (over_blanks s opened blank_opened refl)
 
-  pub opened_end : length q ≤ r → PartRead q opened n place deep (Refused r)
-  opened_end h = over_opened (Reader.PartRead.refused r (end_at opened q r h refl))
+  opened_from : reading opened n (drop n q) ≡ reading opened r (drop r q)
+  opened_from = over_blanks s opened blank_opened refl
+
+  pub opened_end : length q ≤ r → reading opened n (drop n q) ≡ bad r
+  opened_end h = opened_from ∙ end_at opened q r h refl
 
   module _ (h : r < length q) where
     pub opened_other : (get_or q r 0 ≡ 0x2A → ⊥) → (get_or q r 0 ≡ 0x27 → ⊥) → (get_or q r 0 ≡ 0x22 → ⊥) → (0x30 ≤ get_or q r 0 → get_or q r 0 ≤ 0x39 → ⊥) →
-        PartRead q opened n place deep (Refused r)
-    opened_other f g k d = over_opened (Reader.PartRead.refused r (stop_at opened q r h (other_opened (s.next h) f g k d)))
+        reading opened n (drop n q) ≡ bad r
+    opened_other f g k d = opened_from ∙ stop_at opened q r h (other_opened (s.next h) f g k d)
 
-    every_segment : get_or q r 0 ≡ 0x2A → (m : ℕ) (v : Blanks) → put_blanks v (0x5D ∷ drop m q) ≡ drop (r + 1) q →
-        Begun q place (depth_of deep) opened r → SegmentAt q (every_found place deep) m
-    unfolding put_segment segment_written
-    every_segment e m v f (w, b) =
-        let d : Depth = depth_of deep in
-        record {
-          segment = G.bracketed d w Inner.star v;
-          written = ap (λ (u : List ℕ). put_deep d (0x5B ∷ put_blanks w u)) (ap (λ (u : List ℕ). 0x2A ∷ u) f ∙ sym (byte_is q r h e)) ∙ b;
-          step = step_is deep refl;
-        }
+    module _ (e : get_or q r 0 ≡ 0x2A) where
+      every_read : reading opened r (drop r q) ≡ note R.every r (get_or q r 0) (reading closing (r + 1) (drop (r + 1) q))
+      unfolding step
+      every_read = turn_at opened q r h closing (ap (step (M.at opened)) e)
 
-    pub opened_every : get_or q r 0 ≡ 0x2A → {a : StepRead} → Closed q (every_found place deep) (r + 1) a → PartRead q opened n place deep a
-    unfolding step
-    opened_every e z = over_opened
-        (close_part q opened r (r + 1) (every_found place deep) (note R.every r (get_or q r 0)) (omega arith) tt
-        (λ p. refl) (choose_every r (get_or q r 0))
-        (every_segment e)
-        (turn_at opened q r h closing (ap (step (M.at opened)) e)) z)
+      every_segment : (m : ℕ) (v : Blanks) → put_blanks v (0x5D ∷ drop m q) ≡ drop (r + 1) q → (place : ℕ) (deep : Bool) →
+          Begun q place (depth_of deep) opened r → SegmentAt q (record { deep = deep; place = place; taking = Every }) m
+      unfolding put_segment segment_written
+      every_segment m v f place deep (w, b) =
+          let d : Depth = depth_of deep in
+          record {
+            segment = G.bracketed d w Inner.star v;
+            written = ap (λ (u : List ℕ). put_deep d (0x5B ∷ put_blanks w u)) (ap (λ (u : List ℕ). 0x2A ∷ u) f ∙ sym (byte_is q r h e)) ∙ b;
+            step = step_is deep refl;
+          }
 
-    pub opened_quote : (x : Quote) → get_or q r 0 ≡ quote_byte x → {a : StepRead} → PartRead q (inside (quoted x)) (r + 1) place deep a →
-        PartRead q opened n place deep a
-    opened_quote x e z = over_opened
-        (part_from (omega arith)
-        (λ (w, b). (w, ap (λ (u : List ℕ). put_deep (depth_of deep) (0x5B ∷ put_blanks w u)) (sym (byte_is q r h e)) ∙ b))
-        (kept_at opened q r h (inside (quoted x)) (ap (step (M.at opened)) e ∙ quote_opens x) refl) z)
+      pub every_open : {p : ℕ} → reading closing (r + 1) (drop (r + 1) q) ≡ bad p → reading opened n (drop n q) ≡ bad p
+      every_open g = opened_from ∙ every_read ∙ ap (note R.every r (get_or q r 0)) g
+
+      pub every_taken : {m : ℕ} → BracketClosed q (r + 1) m → PartTaken q opened n Every m
+      every_taken {m} z = over_opened (Ok (Every, m))
+          (closed_part q opened r (r + 1) Every (note R.every r (get_or q r 0)) (omega arith) tt
+          (λ p. refl) (choose_every r (get_or q r 0)) every_segment every_read z)
+
+    pub opened_quote : (x : Quote) → get_or q r 0 ≡ quote_byte x → (a : Result (Taking × ℕ) Dead) → PartRead q (inside (quoted x)) (r + 1) a →
+        PartRead q opened n a
+    opened_quote x e a z = over_opened a
+        (part_from q opened (inside (quoted x)) (omega arith)
+        (λ place deep (w, b). (w, ap (λ (u : List ℕ). put_deep (depth_of deep) (0x5B ∷ put_blanks w u)) (sym (byte_is q r h e)) ∙ b))
+        (kept_at opened q r h (inside (quoted x)) (ap (step (M.at opened)) e ∙ quote_opens x) refl) a z)
 
 -- behind `.` or `..`
 star_done : (d : Depth) → step (M.at (M.dotted d)) 0x2A ≡ M.at done
 unfolding step
 star_done d = refl
 
-module _ {q : List ℕ} {n place : ℕ} {deep : Bool} where
-  pub short_end : length q ≤ n → PartRead q (M.dotted (depth_of deep)) n place deep (Refused n)
-  short_end h = Reader.PartRead.refused n (end_at (M.dotted (depth_of deep)) q n h refl)
+module _ (q : List ℕ) {n : ℕ} (d : Depth) where
+  pub short_end : length q ≤ n → reading (M.dotted d) n (drop n q) ≡ bad n
+  short_end h = end_at (M.dotted d) q n h refl
 
-  pub short_every : n < length q → get_or q n 0 ≡ 0x2A → PartRead q (M.dotted (depth_of deep)) n place deep (Taken (every_found place deep) (n + 1))
+  pub short_every : n < length q → get_or q n 0 ≡ 0x2A → PartTaken q (M.dotted d) n Every (n + 1)
   unfolding put_segment segment_written
   short_every h e =
-      Reader.PartRead.taken (every_found place deep) (n + 1) (record {
-        place = refl;
-        depth = refl;
+      record {
         bounded = tt;
         on = omega arith;
         within = omega arith;
-        stands = λ b. record {
+        stands = λ place deep (same, b). record {
           segment = G.dotted (depth_of deep) Short.star;
           written = ap (put_dots (depth_of deep)) (sym (byte_is q n h e)) ∙ b;
           step = step_is deep refl;
         };
-        reads = turn_at (M.dotted (depth_of deep)) q n h done (ap (step (M.at (M.dotted (depth_of deep)))) e ∙ star_done (depth_of deep)) ∙
+        reads = turn_at (M.dotted d) q n h done (ap (step (M.at (M.dotted d))) e ∙ star_done d) ∙
             choose_every n (get_or q n 0) (reading done (n + 1) (drop (n + 1) q)) (ended (n + 1) (drop (n + 1) q));
-      })
+      }
 
-  module _ (f : get_or q n 0 ≡ 0x2A → ⊥) (g : get_or q n 0 ≡ deeper_byte (depth_of deep) → ⊥) {ok : Bool} {r : ℕ} (s : ShortName q n ok r) where
-    pub short_refused : ok ≡ false → PartRead q (M.dotted (depth_of deep)) n place deep (Refused r)
-    short_refused e = Reader.PartRead.refused r
-        (s.reads (depth_of deep) (record { no_star = f; no_deeper = g }) ∙ ap (λ (b : Bool). spelt q done n b r) e)
-
-    short_segment : ok ≡ true → Begun q place (depth_of deep) (M.dotted (depth_of deep)) n → SegmentAt q (name_found place deep n r) r
+  module _ (f : get_or q n 0 ≡ 0x2A → ⊥) (g : get_or q n 0 ≡ deeper_byte d → ⊥) {r : ℕ} where
+    pub short_taken : ShortName q n true r → PartTaken q (M.dotted d) n (Name n r) r
     unfolding put_segment segment_written
-    short_segment e b =
-        let m = s.moved.on e in
-        let (x, cs, t) = s.stands e in
+    short_taken s =
+        let m = s.moved.on refl in
+        let (x, cs, t) = s.stands refl in
         record {
-          segment = G.dotted (depth_of deep) (G.shorthand x cs);
-          written = ap (put_dots (depth_of deep)) t ∙ b;
-          step = step_is deep (ap S.name (sym (written_slice q (put_first x (put_laters cs [])) n r (omega arith) s.moved.within
-              (sym (shorthand_append x cs (drop r q)) ∙ t))));
-        }
-
-    pub short_taken : ok ≡ true → PartRead q (M.dotted (depth_of deep)) n place deep (Taken (name_found place deep n r) r)
-    short_taken e =
-        let m = s.moved.on e in
-        Reader.PartRead.taken (name_found place deep n r) r (record {
-          place = refl;
-          depth = refl;
           bounded = (omega arith, omega arith, omega arith);
           on = m;
           within = s.moved.within;
-          stands = short_segment e;
-          reads = s.reads (depth_of deep) (record { no_star = f; no_deeper = g }) ∙ ap (λ (b : Bool). spelt q done n b r) e ∙
-              choose_name (slice n r q) (reading done r (drop r q)) (ended r (drop r q));
-        })
+          stands = λ place deep (same, b). record {
+            segment = G.dotted (depth_of deep) (G.shorthand x cs);
+            written = ap (put_dots (depth_of deep)) t ∙ b;
+            step = step_is deep (ap S.name (sym (written_slice q (put_first x (put_laters cs [])) n r (omega arith) s.moved.within
+                (sym (shorthand_append x cs (drop r q)) ∙ t))));
+          };
+          reads = s.reads d (record { no_star = f; no_deeper = g }) ∙ choose_name (slice n r q) (reading done r (drop r q)) (ended r (drop r q));
+        }
 
 bracket_opens : step (M.at (M.dotted G.deep)) 0x5B ≡ M.at opened
 unfolding step
 bracket_opens = refl
 
-pub deep_bracket : {q : List ℕ} {n place : ℕ} {a : StepRead} → n < length q → get_or q n 0 ≡ 0x5B → PartRead q opened (n + 1) place true a →
-    PartRead q (M.dotted (depth_of true)) n place true a
+pub deep_bracket : (q : List ℕ) {n : ℕ} → n < length q → get_or q n 0 ≡ 0x5B → (a : Result (Taking × ℕ) Dead) → PartRead q opened (n + 1) a →
+    PartRead q (M.dotted G.deep) n a
 unfolding put_dots put_deep put_blanks
-deep_bracket {q} {n} h e z = part_from (omega arith) (λ b. ([], ap (λ (u : List ℕ). 0x2E ∷ 0x2E ∷ u) (sym (byte_is q n h e)) ∙ b))
-    (kept_at (M.dotted G.deep) q n h opened (ap (step (M.at (M.dotted G.deep))) e ∙ bracket_opens) refl) z
+deep_bracket q {n} h e = part_from q (M.dotted G.deep) opened (omega arith)
+    (λ place deep (same, b). ([], rw same (ap (λ (u : List ℕ). 0x2E ∷ 0x2E ∷ u) (sym (byte_is q n h e)) ∙ rw same at b)))
+    (kept_at (M.dotted G.deep) q n h opened (ap (step (M.at (M.dotted G.deep))) e ∙ bracket_opens) refl)
 
 -- what is read from n on is refused
-refused_at : (q : List ℕ) (n p : ℕ) → reading done n (drop n q) ≡ bad p → StepAt q n (Refused p)
+refused_at : (q : List ℕ) (n p : ℕ) → reading done n (drop n q) ≡ bad p → StepRefused q n p
 unfolding run place step
 refused_at q n p e = go (reading done n (drop n q)) e (tells done n (drop n q))
   where
-    go : (r : Reading) → r ≡ bad p → Tells done n (drop n q) r → StepAt q n (Refused p)
+    go : (r : Reading) → r ≡ bad p → Tells done n (drop n q) r → StepRefused q n p
     go r f (well a t) = let z : ◌≡◌ {A = ℕ} 0 1 = cc in absurd (omega arith)
     go r f (ill k t g) =
         let z : k ≡ p = cc in
         let far : place start (0x24 ∷ drop n q) ≡ suc (p - n) = omega arith in
-        Reader.StepAt.refused p (record {
+        record {
           from = omega arith;
           wrong = λ x. subst T (sym (accepts_text (0x24 ∷ drop n q) x) ∙ t) tt;
           dead = subst (DeadPlace QueryText (0x24 ∷ drop n q)) far (dead_place (0x24 ∷ drop n q));
           reads = e;
-        })
+        }
 
--- a whole step: the blanks before it, what its first bytes say, and the rest of it
-module _ (q : List ℕ) (c : Control) (n k place : ℕ) (deep : Bool) (said : Reading → Reading) (s : Skipped q n place) (l : place ≤ k)
-    (bads : (p : ℕ) → said (bad p) ≡ bad p)
-    (pushes : (x : Selector) (r : Reading) → said (choose x r) ≡ push (record { place = place; step = record { deep = deep; selector = x } }) r)
-    (b : Begun q place (depth_of deep) c k) (e : reading done n (drop n q) ≡ said (reading c k (drop k q))) where
-  whole_step : {a : StepRead} → PartRead q c k place deep a → StepAt q n a
+-- the blanks before a step and its first bytes stand from n up to k, and lead the reading to the control state c
+pub record Led (q : List ℕ) (n k : ℕ) (c : Control) (place : ℕ) (deep : Bool) : Type 0 where
+  pub skipped : Skipped q n place
+  pub on : place ≤ k
+  pub begun : Begun q place (depth_of deep) c k
+  pub said : Reading → Reading
+  pub bads : (p : ℕ) → said (bad p) ≡ bad p
+  pub pushes : (x : Selector) (r : Reading) → said (choose x r) ≡ push (record { place = place; step = record { deep = deep; selector = x } }) r
+  pub reads : reading done n (drop n q) ≡ said (reading c k (drop k q))
+
+-- the rest of the step, or its dead byte
+module _ {q : List ℕ} {n k : ℕ} {c : Control} {place : ℕ} {deep : Bool} (led : Led q n k c place deep) where
+  pub step_taken : {t : Taking} {m : ℕ} → PartTaken q c k t m → StepTaken q n (record { deep = deep; place = place; taking = t }) m
   unfolding put_spaced
-  whole_step (Reader.PartRead.taken f m t) =
-      let x : Selector = selector_at q f.taking in
+  step_taken {t} {m} p =
+      let s = led.skipped in
+      let x : Selector = selector_at q t in
       let (w, u) = s.stand in
-      let g = t.stands b in
+      let g = p.stands place deep led.begun in
       let y : Spaced = record { before = w; segment = g.segment } in
-      let text : put_spaced y (drop m q) ≡ drop n q =
-      ap (put_blanks w) (g.written ∙ ap (λ (i : ℕ). drop i q) t.place) ∙ u in
-      let o = t.on in
-      let h : n ≤ m = omega (arith, s.from) in
-      Reader.StepAt.taken f m (record {
+      let text : put_spaced y (drop m q) ≡ drop n q = ap (put_blanks w) g.written ∙ u in
+      let h : n ≤ m = omega (arith, s.from, led.on, p.on) in
+      record {
         spaced = y;
-        written = written_slice q (put_spaced y []) n m h t.within (sym (append-spaced y [] (drop m q)) ∙ text);
-        place = omega (arith, t.place, blanks_far s);
+        written = written_slice q (put_spaced y []) n m h p.within (sym (append-spaced y [] (drop m q)) ∙ text);
+        place = omega (arith, blanks_far s);
         step = g.step;
-        bounded = bounded_wider f.taking (omega (arith, s.from)) (omega arith) t.bounded;
-        on = omega (arith, s.from);
-        within = t.within;
-        reads = e ∙ ap said t.reads ∙ pushes x (reading done m (drop m q)) ∙
-            ap₂ (λ (i : ℕ) (z : Bool). push (record { place = i; step = record { deep = z; selector = x } }) (reading done m (drop m q)))
-            (sym t.place) (sym t.depth);
-      })
-  whole_step (Reader.PartRead.refused p g) = refused_at q n p (e ∙ ap said g ∙ bads p)
+        bounded = bounded_wider t (omega (arith, s.from, led.on)) (omega arith) p.bounded;
+        on = omega (arith, s.from, led.on, p.on);
+        within = p.within;
+        reads = led.reads ∙ ap led.said p.reads ∙ led.pushes x (reading done m (drop m q));
+      }
+
+  pub step_refused : {p : ℕ} → reading c k (drop k q) ≡ bad p → StepRefused q n p
+  step_refused {p} g = refused_at q n p (led.reads ∙ ap led.said g ∙ led.bads p)
 
 module _ {q : List ℕ} {n r : ℕ} (l : n < length q) (s : Skipped q n r) where
   to_gap : reading done n (drop n q) ≡ reading gap r (drop r q)
   to_gap = ap (reading done n) (byte_at_lem q n l) ∙ done_gap n (get_or q n 0) (drop (n + 1) q) ∙ ap (reading gap n) (sym (byte_at_lem q n l)) ∙
       over_blanks s gap blank_gap refl
 
-  pub step_cut : length q ≤ r → StepAt q n (Refused r)
+  pub step_cut : length q ≤ r → StepRefused q n r
   step_cut h = refused_at q n r (to_gap ∙ end_at gap q r h refl)
 
   module _ (h : r < length q) where
-    pub step_other : (get_or q r 0 ≡ 0x5B → ⊥) → (get_or q r 0 ≡ 0x2E → ⊥) → StepAt q n (Refused r)
+    pub step_other : (get_or q r 0 ≡ 0x5B → ⊥) → (get_or q r 0 ≡ 0x2E → ⊥) → StepRefused q n r
     step_other f g = refused_at q n r (to_gap ∙ stop_at gap q r h (other_gap (s.next h) g f))
 
-    pub step_bracket : get_or q r 0 ≡ 0x5B → {a : StepRead} → PartRead q opened (r + 1) r false a → StepAt q n a
+    pub bracket_led : get_or q r 0 ≡ 0x5B → Led q n (r + 1) opened r false
     unfolding step put_deep put_blanks
-    step_bracket e z =
-        whole_step q opened n (r + 1) r false (note begin r (get_or q r 0)) s (omega arith) (λ p. refl) (push_plain r (get_or q r 0))
-        ([], sym (byte_is q r h e))
-        (to_gap ∙ turn_at gap q r h opened (ap (step (M.at gap)) e)) z
+    bracket_led e = record {
+      skipped = s;
+      on = omega arith;
+      begun = ([], sym (byte_is q r h e));
+      said = note begin r (get_or q r 0);
+      bads = λ p. refl;
+      pushes = push_plain r (get_or q r 0);
+      reads = to_gap ∙ turn_at gap q r h opened (ap (step (M.at gap)) e);
+    }
 
     module _ (e : get_or q r 0 ≡ 0x2E) where
-      dot : reading done n (drop n q) ≡ note begin r (get_or q r 0) (reading (M.dotted G.plain) (r + 1) (drop (r + 1) q))
-      unfolding step
-      dot = to_gap ∙ turn_at gap q r h (M.dotted G.plain) (ap (step (M.at gap)) e)
-
-      pub step_dot_end : length q ≤ r + 1 → StepAt q n (Refused (r + 1))
-      step_dot_end g = refused_at q n (r + 1) (dot ∙ ap (note begin r (get_or q r 0)) (end_at (M.dotted G.plain) q (r + 1) g refl))
-
-      pub step_plain : {a : StepRead} → PartRead q (M.dotted (depth_of false)) (r + 1) r false a → StepAt q n a
-      unfolding put_dots
-      step_plain z =
-          whole_step q (M.dotted G.plain) n (r + 1) r false (note begin r (get_or q r 0)) s (omega arith) (λ p. refl)
-          (push_plain r (get_or q r 0)) (sym (byte_is q r h e)) dot z
-
-      pub step_deep : r + 1 < length q → get_or q (r + 1) 0 ≡ 0x2E → {a : StepRead} →
-          PartRead q (M.dotted (depth_of true)) (r + 1 + 1) r true a → StepAt q n a
+      pub plain_led : Led q n (r + 1) (M.dotted G.plain) r false
       unfolding step put_dots
-      step_deep g f z =
-          whole_step q (M.dotted G.deep) n (r + 1 + 1) r true (λ x. note begin r (get_or q r 0) (note deepen (r + 1) (get_or q (r + 1) 0) x))
-          s (omega arith)
-          (λ p. refl) (push_deep r (get_or q r 0) (r + 1) (get_or q (r + 1) 0))
-          (sym (byte_is q r h e ∙ ap (λ (u : List ℕ). 0x2E ∷ u) (byte_is q (r + 1) g f)))
-          (dot ∙ ap (note begin r (get_or q r 0))
-          (turn_at (M.dotted G.plain) q (r + 1) g (M.dotted G.deep) (ap (step (M.at (M.dotted G.plain))) f))) z
+      plain_led = record {
+        skipped = s;
+        on = omega arith;
+        begun = (refl, sym (byte_is q r h e));
+        said = note begin r (get_or q r 0);
+        bads = λ p. refl;
+        pushes = push_plain r (get_or q r 0);
+        reads = to_gap ∙ turn_at gap q r h (M.dotted G.plain) (ap (step (M.at gap)) e);
+      }
+
+      pub deep_led : r + 1 < length q → get_or q (r + 1) 0 ≡ 0x2E → Led q n (r + 2) (M.dotted G.deep) r true
+      unfolding step put_dots
+      deep_led g f = subst (λ (k : ℕ). Led q n k (M.dotted G.deep) r true) (let two : r + 1 + 1 ≡ r + 2 = omega arith in two) (record {
+        skipped = s;
+        on = omega arith;
+        begun = (refl, sym (byte_is q r h e ∙ ap (λ (u : List ℕ). 0x2E ∷ u) (byte_is q (r + 1) g f)));
+        said = λ x. note begin r (get_or q r 0) (note deepen (r + 1) (get_or q (r + 1) 0) x);
+        bads = λ p. refl;
+        pushes = push_deep r (get_or q r 0) (r + 1) (get_or q (r + 1) 0);
+        reads = to_gap ∙ turn_at gap q r h (M.dotted G.plain) (ap (step (M.at gap)) e) ∙ ap (note begin r (get_or q r 0))
+            (turn_at (M.dotted G.plain) q (r + 1) g (M.dotted G.deep) (ap (step (M.at (M.dotted G.plain))) f));
+      })

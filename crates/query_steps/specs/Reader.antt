@@ -1,13 +1,12 @@
 -- What reading one step of a query answers: by the grammar, and against the reading of the whole query.
-use Rattle.std.specs.Prelude.{◌≡◌, List, [], ◌∷◌, Bool, true, false, ℕ, suc, ◌+◌, ◌-◌, ◌≤◌, ◌<◌, length, drop}
+use Rattle.std.specs.Prelude.{◌≡◌, List, [], ◌∷◌, Bool, true, false, ℕ, suc, ◌+◌, ◌-◌, ◌≤◌, ◌<◌, Result, Ok, Err, length, drop}
 use Rattle.std.proofs.Math.Seq.{slice}
 use Rattle.query_steps.specs.declared.Found.{Found}
-use Rattle.query_steps.specs.declared.StepRead.{StepRead}
-use Rattle.query_steps.specs.declared.StepRead.TheVariants.{Taken, Refused}
 use Rattle.query_steps.specs.declared.Taking.{Taking}
 use Rattle.query_steps.specs.declared.Taking.TheVariants.{Every, Name, Position}
 use Rattle.encoding.specs.Bytes.{Blanks, put_blanks}
 use Rattle.encoding.specs.Prefix.{DeadPlace}
+use Rattle.encoding.specs.declared.Dead.{Dead}
 use Rattle.query.specs.Grammar.{quote_byte, Depth, plain, deep, Segment, Spaced, QueryText, put_dots, put_deep, put_segment, put_spaced}
 use Rattle.query.specs.Grammar.{max_position}
 use Rattle.query.specs.Steps as S
@@ -30,11 +29,6 @@ selector_at q (Position j) = S.position j
 -- the step that was found
 abbrev pub placed_at : List ℕ → Found → Placed
 placed_at q f = record { place = f.place; step = record { deep = f.deep; selector = selector_at q f.taking } }
-
--- the place of the step, or of the dead byte
-abbrev pub read_place : StepRead → ℕ
-read_place (Taken f m) = f.place
-read_place (Refused p) = p
 
 -- of a step between two places of the query: its name stands there, and its position is at most the largest that a query can have
 abbrev pub Bounded : ℕ → ℕ → Taking → Type 0
@@ -59,17 +53,17 @@ pub record BracketClosed (q : List ℕ) (n m : ℕ) : Type 0 where
   pub stand : (w : Blanks) × (put_blanks w (0x5D ∷ drop m q) ≡ drop n q)
   pub reads : reading closing n (drop n q) ≡ reading done m (drop m q)
 
--- from n on the brackets around what was found are closed; or the byte at p is dead
-pub data Closed (q : List ℕ) (f : Found) (n : ℕ) : StepRead → Type 0 where
-  taken : (m : ℕ) → BracketClosed q n m → Closed q f n (Taken f m)
-  refused : (p : ℕ) → reading closing n (drop n q) ≡ bad p → Closed q f n (Refused p)
+-- from n on the brackets are closed; or a byte is dead
+abbrev pub Closed : List ℕ → ℕ → Result ℕ Dead → Type 0
+Closed q n (Ok m) = BracketClosed q n m
+Closed q n (Err d) = reading closing n (drop n q) ≡ bad d.at
 
 -- from a place up to n stand the first bytes of a segment of this depth, those that lead to the control state
 abbrev pub Begun : List ℕ → ℕ → Depth → Control → ℕ → Type 0
 Begun q place d root n = ⊥
 Begun q place d done n = ⊥
 Begun q place d gap n = ⊥
-Begun q place d (dotted e) n = put_dots d (drop n q) ≡ drop place q
+Begun q place d (dotted e) n = (d ≡ e) × (put_dots d (drop n q) ≡ drop place q)
 Begun q place d opened n = (w : Blanks) × (put_deep d (0x5B ∷ put_blanks w (drop n q)) ≡ drop place q)
 Begun q place d closing n = ⊥
 Begun q place d (in_position v) n = ⊥
@@ -84,19 +78,19 @@ pub record SegmentAt (q : List ℕ) (f : Found) (m : ℕ) : Type 0 where
   pub written : put_segment segment (drop m q) ≡ drop f.place q
   pub step : (placed_at q f).step ≡ segment_written segment
 
--- the rest of a step, read from n up to m: it began at `begin`, and its first bytes led to the control state c
-pub record PartTaken (q : List ℕ) (c : Control) (n begin : ℕ) (deep : Bool) (f : Found) (m : ℕ) : Type 0 where
-  pub place : f.place ≡ begin
-  pub depth : f.deep ≡ deep
-  pub bounded : Bounded n m f.taking
+-- the rest of a step that takes this, read from n up to m, where its first bytes led to the control state c: from wherever these stand, the
+-- whole step stands up to m
+pub record PartTaken (q : List ℕ) (c : Control) (n : ℕ) (t : Taking) (m : ℕ) : Type 0 where
+  pub bounded : Bounded n m t
   pub on : n < m
   pub within : m ≤ length q
-  pub stands : Begun q begin (depth_of deep) c n → SegmentAt q f m
-  pub reads : reading c n (drop n q) ≡ choose (selector_at q f.taking) (reading done m (drop m q))
+  pub stands : (place : ℕ) (deep : Bool) → Begun q place (depth_of deep) c n → SegmentAt q (record { deep = deep; place = place; taking = t }) m
+  pub reads : reading c n (drop n q) ≡ choose (selector_at q t) (reading done m (drop m q))
 
-pub data PartRead (q : List ℕ) (c : Control) (n begin : ℕ) (deep : Bool) : StepRead → Type 0 where
-  taken : (f : Found) (m : ℕ) → PartTaken q c n begin deep f m → PartRead q c n begin deep (Taken f m)
-  refused : (p : ℕ) → reading c n (drop n q) ≡ bad p → PartRead q c n begin deep (Refused p)
+-- the rest of a step stands from n on; or a byte is dead
+abbrev pub PartRead : List ℕ → Control → ℕ → Result (Taking × ℕ) Dead → Type 0
+PartRead q c n (Ok (t, m)) = PartTaken q c n t m
+PartRead q c n (Err d) = reading c n (drop n q) ≡ bad d.at
 
 -- a step, read from n up to m: the blanks and the segment of the grammar that stand there, which are the step that was found, at the place
 -- behind the blanks; and the query is that step and then what is read from m on
@@ -117,7 +111,7 @@ pub record StepRefused (q : List ℕ) (n p : ℕ) : Type 0 where
   pub dead : DeadPlace QueryText (0x24 ∷ drop n q) (suc (p - n))
   pub reads : reading done n (drop n q) ≡ bad p
 
--- what stands from n on: a step up to m; or the byte at p is dead
-pub data StepAt (q : List ℕ) (n : ℕ) : StepRead → Type 0 where
-  taken : (f : Found) (m : ℕ) → StepTaken q n f m → StepAt q n (Taken f m)
-  refused : (p : ℕ) → StepRefused q n p → StepAt q n (Refused p)
+-- what stands from n on: a step; or a byte is dead
+abbrev pub StepAt : List ℕ → ℕ → Result (Found × ℕ) Dead → Type 0
+StepAt q n (Ok (f, m)) = StepTaken q n f m
+StepAt q n (Err d) = StepRefused q n d.at

@@ -4,7 +4,7 @@
 ghost use Rattle.report.specs.Output.{picklist_output};
 ghost use Rattle.text.specs.Put.{Printed};
 
-use lines::input::{query_in, record_in};
+use lines::input::parts;
 use lines::output::{write_answer, write_too_long};
 use woodcrock::list_jumping;
 
@@ -25,8 +25,7 @@ pub fn print_picklist(input: &[u8], out: &mut [u8; OUTPUT_SIZE]) -> usize
     if input.len() > MAX_INPUT {
         return write_too_long(out);
     }
-    let query = query_in(input);
-    let record = record_in(input);
+    let (query, record) = parts(input);
     let mut list = [0u32; LIST_SIZE];
     let answer = list_jumping(query, record, &mut list);
     write_answer(out, answer.ground, answer.place, answer.pairs, &list)

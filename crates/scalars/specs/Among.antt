@@ -1,7 +1,8 @@
 -- A byte that is among some bytes, or is not, and what that says of a machine that has one rule for each of them.
-use Rattle.std.specs.Prelude.{◌≡◌, List, [], ◌∷◌, Bool, true, false, ◌&&◌, ℕ, ◌≤◌, ◌<◌, T, leb, length, get_or}
+use Rattle.std.specs.Prelude.{◌≡◌, refl, eqb, List, [], ◌∷◌, Bool, true, false, ◌&&◌, ◌⊎◌, ℕ, ◌≤◌, ◌<◌, T, leb, length, get_or}
 use Rattle.std.proofs.Math.Option.{Option, some, none}
-use Rattle.std.proofs.Common.{arith, leb→le}
+use Rattle.std.proofs.Common.{arith, leb→le, inl, inr}
+use borrow.Author.Tests.{eqb-true, eqb-false}
 use Rattle.bits.specs.Truth.{and_left, and_right}
 use Rattle.json_text.specs.Room.{Room}
 use Rattle.json_text.specs.Machine.{Ctl, Stack, top, at, Rule, one, lowest, highest, rules, step}
@@ -12,6 +13,23 @@ pub data Among : List ℕ → ℕ → Bool → Type 0 where
   this : {b n : ℕ} {ns : List ℕ} → b ≡ n → Among (n ∷ ns) b true
   other : {b n : ℕ} {ns : List ℕ} {ok : Bool} → (b ≡ n → ⊥) → Among ns b ok → Among (n ∷ ns) b ok
   no_more : {b : ℕ} → Among [] b false
+
+-- whether b is the byte n
+pub among_one : (b n : ℕ) → Among (n ∷ []) b (eqb b n)
+among_one b n = by (eqb b n) refl
+  where
+    by : (x : Bool) → eqb b n ≡ x → Among (n ∷ []) b x
+    by true e = this (eqb-true b n e)
+    by false e = other (eqb-false b n e) no_more
+
+-- one of two bytes
+pub among_two : {b m n : ℕ} → (b ≡ m) ⊎ (b ≡ n) → Among (m ∷ n ∷ []) b true
+among_two (inl e) = this e
+among_two {b} {m} {n} (inr e) = by (eqb b m) refl
+  where
+    by : (x : Bool) → eqb b m ≡ x → Among (m ∷ n ∷ []) b true
+    by true t = this (eqb-true b m t)
+    by false f = other (eqb-false b m f) (this e)
 
 -- whether a byte stands at place i that is among them
 pub data AmongAt (ns : List ℕ) (s : List ℕ) (i : ℕ) : Bool → Type 0 where

@@ -1,9 +1,10 @@
 -- Numbers (RFC 8259 §6) as the record grammar's machine takes them.
-use Rattle.std.specs.Prelude.{◌≡◌, List, [], ◌∷◌, ◌++◌, Bool, true, false, not, ◌⊎◌, ℕ, ◌+◌, ◌≤◌, ◌<◌, leb, length, get_or}
+use Rattle.std.specs.Prelude.{◌≡◌, List, [], ◌∷◌, ◌++◌, Bool, true, false, ◌⊎◌, ℕ, ◌+◌, ◌≤◌, ◌<◌, length, get_or}
 use Rattle.std.proofs.Math.Path.{refl}
-use Rattle.std.proofs.Common.{sym, ◌∙◌, append_assoc, true≢false, inl, inr, arith, leb-true, leb-false}
-use Rattle.std.proofs.lemmas.Bool.{false≢true, not-true, not-false}
+use Rattle.std.proofs.Common.{sym, ◌∙◌, append_assoc, true≢false, inl, inr, ⊎_elim, arith}
+use Rattle.std.proofs.lemmas.Bool.{false≢true}
 use Rattle.std.proofs.Math.Option.{Option, some, none}
+use Rattle.bits.specs.Laws.{lt_or_ge}
 use Rattle.encoding.specs.BytesLaws.{beneath, beyond}
 use Rattle.encoding.specs.BytesLaws as BytesLaws
 use Rattle.lanes.specs.Kinds.{digit}
@@ -12,8 +13,8 @@ use Rattle.swar.specs.Passing.{one_more}
 use Rattle.json_text.specs.Grammar.{Kind}
 use Rattle.json_text.specs.Room.{Room, endless}
 use Rattle.json_text.specs.Machine.{Ctl, after, after_minus, after_zero, in_int, after_point, in_frac, after_e, after_sign, in_exp, Stack, top, at, dead, Rule, one, span, after_rules, rules, step, final}
-use Rattle.json_text.specs.MachineLaws.{Picks, inside, past, nowhere, landing, step_range, step_by, step_over}
-use Rattle.scalars.specs.Among.{Among, this, other, no_more, AmongAt, byte, nothing, missed, each, among_picks, among_past, among_within}
+use Rattle.json_text.specs.MachineLaws.{Picks, past, nowhere, landing, step_range, step_by, step_over}
+use Rattle.scalars.specs.Among.{Among, this, other, no_more, AmongAt, byte, nothing, missed, each, among_picks, among_past, among_within, among_byte}
 use Rattle.json_text.specs.Led.{Led, led_here, led_go, led_die, led_end, led_over, led_same, led_skip, led_on}
 
 -- a byte that is none
@@ -22,12 +23,9 @@ pub data NoDigit (b : ℕ) : Type 0 where
   over : 0x39 < b → NoDigit b
 
 pub digit_or_not : (b : ℕ) → NoDigit b ⊎ ((0x30 ≤ b) × (b ≤ 0x39))
-digit_or_not b = by (leb 0x30 b) refl (leb b 0x39) refl
-  where
-    by : (x : Bool) → leb 0x30 b ≡ x → (y : Bool) → leb b 0x39 ≡ y → NoDigit b ⊎ ((0x30 ≤ b) × (b ≤ 0x39))
-    by false e y f = inl (under (leb-false 0x30 b e))
-    by true e false f = inl (over (leb-false b 0x39 f))
-    by true e true f = inr (leb-true 0x30 b e, leb-true b 0x39 f)
+digit_or_not b =
+    ⊎_elim (λ (below : b < 0x30). inl (under below)) (λ (from : 0x30 ≤ b).
+    ⊎_elim (λ (above : 0x39 < b). inl (over above)) (λ (to : b ≤ 0x39). inr (from, to)) (lt_or_ge 0x39 b)) (lt_or_ge b 0x30)
 
 module _ (b : ℕ) where
   pub digit_holds : 0x30 ≤ b → b ≤ 0x39 → digit b ≡ true
@@ -40,34 +38,30 @@ module _ (b : ℕ) where
   digit_fails (over h) = beyond 0x30 0x39 b h
 
   pub is_digit : digit b ≡ true → (0x30 ≤ b) × (b ≤ 0x39)
-  is_digit e = by (digit_or_not b)
-    where
-      by : NoDigit b ⊎ ((0x30 ≤ b) × (b ≤ 0x39)) → (0x30 ≤ b) × (b ≤ 0x39)
-      by (inl n) = absurd (true≢false (sym e ∙ digit_fails n))
-      by (inr d) = d
+  is_digit e = ⊎_elim (λ n. absurd (true≢false (sym e ∙ digit_fails n))) (λ d. d) (digit_or_not b)
 
   pub not_digit : digit b ≡ false → NoDigit b
-  not_digit e = by (digit_or_not b)
-    where
-      by : NoDigit b ⊎ ((0x30 ≤ b) × (b ≤ 0x39)) → NoDigit b
-      by (inl n) = n
-      by (inr d) = absurd (true≢false (sym (digit_holds d.0 d.1) ∙ e))
+  not_digit e = ⊎_elim (λ n. n) (λ d. absurd (true≢false (sym (digit_holds d.0 d.1) ∙ e))) (digit_or_not b)
 
 -- whether a digit stands at place i
 pub record DigitAt (s : List ℕ) (i : ℕ) (r : Bool) : Type 0 where
   pub inside : r ≡ true → i < length s
   pub is : i < length s → digit (get_or s i 0) ≡ r
 
+module _ {s : List ℕ} {i : ℕ} where
+  pub digit_stands : i < length s → 0x30 ≤ get_or s i 0 → get_or s i 0 ≤ 0x39 → DigitAt s i true
+  digit_stands h l u = record { inside = λ e. h; is = λ x. digit_holds _ l u }
+
+  pub no_digit_stands : (i < length s → NoDigit (get_or s i 0)) → DigitAt s i false
+  no_digit_stands n = record { inside = λ e. absurd (false≢true e); is = λ h. digit_fails _ (n h) }
+
 -- a run of digits goes on with one, and ends where none stands
-module _ {s : List ℕ} {i : ℕ} {r : Bool} (d : DigitAt s i r) where
-  pub digit_inside : not r ≡ false → i < length s
-  digit_inside e = d.inside (not-false r e)
+module _ {s : List ℕ} {i : ℕ} {r : Bool} (d : DigitAt s i r) {from : ℕ} (p : Passed digit s from i) where
+  pub digit_more : r ≡ true → Passed digit s from (i + 1)
+  digit_more e = one_more p (d.inside e) (d.is (d.inside e) ∙ e)
 
-  pub digit_more : {from : ℕ} → Passed digit s from i → not r ≡ false → Passed digit s from (i + 1)
-  digit_more p e = one_more p (digit_inside e) (d.is (digit_inside e) ∙ not-false r e)
-
-  pub digits_stop : {from : ℕ} → Passed digit s from i → not r ≡ true → Run digit s from i
-  digits_stop p e = record { passed = p; stop = λ h. d.is h ∙ not-true r e }
+  pub digits_stop : r ≡ false → Run digit s from i
+  digits_stop e = record { passed = p; stop = λ h. d.is h ∙ e }
 
 -- the control states in which digits keep the machine
 pub data Digit : Ctl → Type 0 where
@@ -151,11 +145,8 @@ unpicked_digit r n = past (no_digit n) nowhere
 module _ {s : List ℕ} {a : ℕ} {c₀ c : Ctl} {i : ℕ} (p : Led s a c₀ c true i) (rs : List Rule)
     (e : (k : Stack) → rules c (top k) ≡ rs ++ after_rules (top k)) (f : final c ≡ true) (u : Unpicked rs s i) where
   pub led_finish : Led s a c₀ after true i
-  led_finish = by (leb (length s) i) refl
-    where
-      by : (x : Bool) → leb (length s) i ≡ x → Led s a c₀ after true i
-      by true t = led_over p after (leb-true (length s) i t) f
-      by false t = let h = leb-false (length s) i t in led_same p after h (λ k ρ. step_over c k ρ rs (e k) (u h))
+  led_finish =
+      ⊎_elim (λ (h : i < length s). led_same p after h (λ k ρ. step_over c k ρ rs (e k) (u h))) (λ h. led_over p after h f) (lt_or_ge i (length s))
 
 -- the control states that want a digit, and where it leads
 pub data WantsDigit : Ctl → Ctl → Type 0 where
@@ -182,11 +173,9 @@ wanted_keeps sign = exp
 -- digits, one at least
 module _ {s : List ℕ} {a : ℕ} {c₀ c d : Ctl} {i r : ℕ} (w : WantsDigit c d) (p : Led s a c₀ c true i) (g : Run digit s i r) where
   pub digits_none : (d' : Ctl) → r ≡ i → Led s a c₀ d' false i
-  digits_none d' q = by (leb (length s) i) refl
-    where
-      by : (x : Bool) → leb (length s) i ≡ x → Led s a c₀ d' false i
-      by true t = led_end p d' (leb-true (length s) i t) (wanted_final w)
-      by false t = let h = leb-false (length s) i t in led_die p d' h (λ k. wanted_dead w k _ (not_digit _ (rw q at g.stop h)))
+  digits_none d' q =
+      ⊎_elim (λ (h : i < length s). led_die p d' h (λ k. wanted_dead w k _ (not_digit _ (rw q at g.stop h)))) (λ h. led_end p d' h (wanted_final w))
+      (lt_or_ge i (length s))
 
   pub digits_some : (r ≡ i → ⊥) → Led s a c₀ d true r
   digits_some q =
@@ -278,8 +267,8 @@ module _ {s : List ℕ} {i : ℕ} where
             (ends_final w)
             (λ l. picks-append (each exponents after_e []) (u l) (among_past after_e [] x nowhere))
 
-    pub exponent_some : Among exponents (get_or s i 0) true → {ok : Bool} {r : ℕ} → Led s (i + 1) after_e after ok r → Exponent s i ok r
-    exponent_some x {ok} {r} q = record { forward = omega (arith, q.from); led = by }
+    pub exponent_some : Among exponents (get_or s i 0) true → (ok : Bool) (r : ℕ) → Led s (i + 1) after_e after ok r → Exponent s i ok r
+    exponent_some x ok r q = record { forward = omega (arith, q.from); led = by }
       where
         by : {a : ℕ} {c : Ctl} → EndAt s a c i → Led s a c after ok r
         by (digits w p u) = led_on (led_go p after_e h (λ k ρ. letter_step x w (u h) k ρ)) q
@@ -297,29 +286,25 @@ unfolding step
 point_step e zero k ρ = rw e refl
 point_step e int k ρ = rw e refl
 
-module _ {s : List ℕ} {i : ℕ} (l : i ≤ length s) {q : Bool} (x : AmongAt (0x2E ∷ []) s i q) where
+module _ {s : List ℕ} {i : ℕ} where
   -- no point stands there
-  pub fraction_none : q ≡ false → Fraction s i true i
-  fraction_none e = record { forward = omega arith; within = l; refused = λ z. absurd (false≢true (sym z)); ended = λ z. by (rw e at x) }
+  pub fraction_none : i ≤ length s → AmongAt (0x2E ∷ []) s i false → Fraction s i true i
+  fraction_none l x = record { forward = omega arith; within = l; refused = λ z. absurd (false≢true (sym z)); ended = λ z. by }
     where
       unpicked : AmongAt (0x2E ∷ []) s i false → i < length s → Picks to_point (get_or s i 0) none
       unpicked (byte h (other n no_more)) k = past (missed n) nowhere
       unpicked (nothing h) k = absurd (omega arith)
 
-      by : AmongAt (0x2E ∷ []) s i false → {a : ℕ} {c : Ctl} → WholeAt s a c i → EndAt s a c i
-      by y (whole w p u) = digits (whole_ends w) p (λ h. picks-append to_point (u h) (unpicked y h))
+      by : {a : ℕ} {c : Ctl} → WholeAt s a c i → EndAt s a c i
+      by (whole w p u) = digits (whole_ends w) p (λ h. picks-append to_point (u h) (unpicked x h))
 
   -- a point, and the digits after it
-  module _ (e : q ≡ true) where
+  module _ (x : AmongAt (0x2E ∷ []) s i true) where
     point_led : {a : ℕ} {c d : Ctl} {rs : List Rule} → Whole d rs → Led s a c d true i → Led s a c after_point true (i + 1)
-    point_led {a} {c} w p = by (rw e at x)
-      where
-        by : AmongAt (0x2E ∷ []) s i true → Led s a c after_point true (i + 1)
-        by (byte h (this n)) = led_go p after_point h (λ k ρ. point_step n w k ρ)
-        by (byte h (other n y)) = elim y [ ]
+    point_led w p = led_go p after_point (among_within x) (λ k ρ. point_step (among_byte x) w k ρ)
 
     pub point_within : i + 1 ≤ length s
-    point_within = let h : i < length s = among_within (rw e at x) in omega arith
+    point_within = let h = among_within x in omega arith
 
     module _ {r : ℕ} (g : Run digit s (i + 1) r) where
       pub fraction_empty : r ≡ i + 1 → Fraction s i false (i + 1)
@@ -337,70 +322,64 @@ module _ {s : List ℕ} {i : ℕ} (l : i ≤ length s) {q : Bool} (x : AmongAt (
 
 -- the whole part
 module _ {s : List ℕ} {i : ℕ} where
-  pub whole_none : i ≤ length s → length s ≤ i → WholePart s i i
-  whole_none l h =
+  minus_here : i ≤ length s → Led s i after_minus after_minus true i
+  minus_here = led_here s i after_minus
+
+  pub whole-zero : AmongAt (0x30 ∷ []) s i true → WholePart s i (i + 1)
+  unfolding step
+  whole-zero x =
+      let h = among_within x in
       record {
         forward = omega arith;
-        within = l;
-        none = λ e. led_end (led_here s i after_minus l) after h refl;
-        some = λ n. absurd (n refl);
+        within = omega arith;
+        none = λ z. absurd (omega arith);
+        some = λ n. whole zero (led_go (minus_here (omega arith)) after_zero h (λ k ρ. rw (among_byte x) refl)) (λ l. nowhere);
       }
 
-  module _ (h : i < length s) where
-    minus_here : Led s i after_minus after_minus true i
-    minus_here = led_here s i after_minus (omega arith)
+  module _ (x : AmongAt (0x30 ∷ []) s i false) {r : ℕ} (g : Run digit s i r) where
+    no_nought : i < length s → get_or s i 0 ≡ 0x30 → ⊥
+    no_nought = by x
+      where
+        by : AmongAt (0x30 ∷ []) s i false → i < length s → get_or s i 0 ≡ 0x30 → ⊥
+        by (byte h (other n no_more)) l = n
+        by (nothing h) l = absurd (omega arith)
 
-    pub whole-zero : get_or s i 0 ≡ 0x30 → WholePart s i (i + 1)
-    unfolding step
-    whole-zero e =
-        record {
-          forward = omega arith;
-          within = omega arith;
-          none = λ z. absurd (omega arith);
-          some = λ n. whole zero (led_go minus_here after_zero h (λ k ρ. rw e refl)) (λ l. nowhere);
-        }
+    here : Led s i after_minus after_minus true i
+    here = minus_here (omega (arith, g.passed.forward, g.passed.within))
 
-    module _ (n : get_or s i 0 ≡ 0x30 → ⊥) {r : ℕ} (g : Run digit s i r) where
-      first_digit : (r ≡ i → ⊥) → (0x31 ≤ get_or s i 0) × (get_or s i 0 ≤ 0x39)
-      first_digit z =
-          let l : i < r = omega (arith, g.passed.forward) in
-          let d = is_digit (get_or s i 0) (g.passed.each i (omega arith) l) in
-          (omega (arith, n), d.1)
+    no_whole : r ≡ i → Led s i after_minus after false i
+    no_whole z = ⊎_elim dead_here (λ h. led_end here after h refl) (lt_or_ge i (length s))
+      where
+        dead_here : i < length s → Led s i after_minus after false i
+        dead_here h =
+            let d = not_digit (get_or s i 0) (rw z at g.stop h) in
+            led_die here after h (λ k. step_by after_minus k endless {o = none} (past (no_nonzero d) (past (missed (no_nought h)) nowhere)))
 
-      pub whole_digits : WholePart s i r
-      unfolding landing
-      whole_digits =
-          record {
-            forward = g.passed.forward;
-            within = g.passed.within;
-            none = λ z.
-                let d = not_digit (get_or s i 0) (rw z at g.stop h) in
-                led_die minus_here after h (λ k. step_by after_minus k endless {o = none} (past (no_nonzero d) (past (missed n) nowhere)));
-            some = λ z.
-                let d = first_digit z in
-                whole int
-                (led_digits int
-                (led_go minus_here in_int h (λ k ρ. step_range after_minus k ρ 0x31 0x39 (get_or s i 0) (at in_int k ρ) refl d.0 d.1))
-                record {
-                  forward = omega (arith, g.passed.forward);
-                  within = g.passed.within;
-                  each = λ j x y. g.passed.each j (omega arith) y;
-                })
-                (λ l. unpicked_digit in_int (not_digit _ (g.stop l)));
-          }
+    a_whole : (r ≡ i → ⊥) → WholeAt s i after_minus r
+    unfolding landing
+    a_whole z =
+        let l : i < r = omega (arith, g.passed.forward) in
+        let h : i < length s = omega (arith, g.passed.within) in
+        let d = is_digit (get_or s i 0) (g.passed.each i (omega arith) l) in
+        let first = led_go here in_int h (λ k ρ. step_range after_minus k ρ 0x31 0x39 (get_or s i 0) (at in_int k ρ) refl (omega (arith, no_nought h)) d.1) in
+        let rest : Passed digit s (i + 1) r = record { forward = omega arith; within = g.passed.within; each = λ j x y. g.passed.each j (omega arith) y } in
+        whole int (led_digits int first rest) (λ l. unpicked_digit in_int (not_digit _ (g.stop l)))
+
+    pub whole_digits : WholePart s i r
+    whole_digits = record { forward = g.passed.forward; within = g.passed.within; none = no_whole; some = a_whole }
 
 -- the parts of a number, one after the other
 module _ {s : List ℕ} {i w : ℕ} (p : WholePart s i w) where
   pub number_none : w ≡ i → Number s i false i
   number_none e = record { moved = λ e. absurd (false≢true e); led = p.none e }
 
-  module _ (n : w ≡ i → ⊥) {ok : Bool} {f : ℕ} (q : Fraction s w ok f) where
-    pub number_wrong : ok ≡ false → Number s i false f
-    number_wrong e = record { moved = λ e. absurd (false≢true e); led = q.refused e (p.some n) }
+  module _ (n : w ≡ i → ⊥) {f : ℕ} where
+    pub number_wrong : Fraction s w false f → Number s i false f
+    number_wrong q = record { moved = λ e. absurd (false≢true e); led = q.refused refl (p.some n) }
 
-    pub number_some : ok ≡ true → {ok' : Bool} {r : ℕ} → Exponent s f ok' r → Number s i ok' r
-    number_some e x =
+    pub number_some : Fraction s w true f → (ok : Bool) (r : ℕ) → Exponent s f ok r → Number s i ok r
+    number_some q ok r x =
         record {
           moved = λ z. omega (arith, p.forward, q.forward, x.forward);
-          led = x.led (q.ended e (p.some n));
+          led = x.led (q.ended refl (p.some n));
         }

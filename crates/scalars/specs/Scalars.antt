@@ -1,12 +1,11 @@
 -- Numbers and literal names (RFC 8259 §3) where a value is due.
 use Rattle.std.specs.Prelude.{◌≡◌, List, [], ◌∷◌, Bool, ◌⊎◌, ℕ, ◌+◌, ◌≤◌, ◌<◌, length, get_or}
 use Rattle.std.proofs.Math.Path.{refl, sym}
-use Rattle.std.proofs.Common.{◌∙◌, inl, inr, arith}
+use Rattle.std.proofs.Common.{◌∙◌, inl, inr, ⊎_elim, arith}
 use Rattle.std.proofs.Math.Bool.{true, false}
 use Rattle.std.proofs.lemmas.Bool.{false≢true}
 use Rattle.std.proofs.Math.Option.{none}
-use Rattle.std.proofs.Math.Dec.{leb}
-use borrow.Author.Tests.{leb-true, leb-false}
+use Rattle.bits.specs.Laws.{lt_or_ge}
 use Rattle.swar.specs.Kinds.{blank}
 use Rattle.json_text.specs.Grammar.{array, object}
 use Rattle.json_text.specs.Room.{Room, endless}
@@ -57,13 +56,14 @@ module _ {b : ℕ} (w : Bare b) (d : NoDigit b) (m : b ≡ 0x2D → ⊥) (f : b 
 module _ {b : ℕ} (w : Bare b) (h : b ≤ 0x39) (m : b ≡ 0x2D → ⊥) (k : Stack) (ρ : Room) where
   digit_alike : 0x30 ≤ b → step (at value_due k ρ) b ≡ step (at after_minus k ρ) b
   unfolding landing step
-  digit_alike l = by (leb 0x31 b) refl
+  digit_alike l = ⊎_elim nought nonzero (lt_or_ge b 0x31)
     where
-      by : (x : Bool) → leb 0x31 b ≡ x → step (at value_due k ρ) b ≡ step (at after_minus k ρ) b
-      by true e =
-          let u = leb-true 0x31 b e in
+      nought : b < 0x31 → step (at value_due k ρ) b ≡ step (at after_minus k ρ) b
+      nought u = let z : b ≡ 0x30 = omega arith in rw z refl
+
+      nonzero : 0x31 ≤ b → step (at value_due k ρ) b ≡ step (at after_minus k ρ) b
+      nonzero u =
           step_range value_due k ρ 0x31 0x39 b (at in_int k ρ) refl u h ∙ sym (step_range after_minus k ρ 0x31 0x39 b (at in_int k ρ) refl u h)
-      by false e = let z : b ≡ 0x30 = omega (arith, leb-false 0x31 b e) in rw z refl
 
   bare_alike : step (at value_due k ρ) b ≡ step (at after_minus k ρ) b
   bare_alike = by (digit_or_not b)
@@ -87,8 +87,8 @@ module _ {s : List ℕ} {i : ℕ} (h : i < length s) where
   bare_led w l m = led_same value_here after_minus h (λ k ρ. bare_alike w l m k ρ)
 
   -- a literal name
-  pub word_begins : {n : ℕ} {d : Ctl} → Begins n d → get_or s i 0 ≡ n → {ok : Bool} {r : ℕ} → Led s (i + 1) d after ok r → Scalar s i ok r
-  word_begins {d = d} w e p =
+  pub word_begins : {n : ℕ} {d : Ctl} → Begins n d → get_or s i 0 ≡ n → (ok : Bool) (r : ℕ) → Led s (i + 1) d after ok r → Scalar s i ok r
+  word_begins {d = d} w e ok r p =
       record { moved = λ x. omega (arith, p.from); led = led_on (led_go value_here d h (λ k ρ. begins_step w k ρ e)) p }
 
   pub word_wrong :
@@ -99,5 +99,5 @@ module _ {s : List ℕ} {i : ℕ} (h : i < length s) where
         led = led_die value_here after h (λ k. step_by value_due k endless {o = none} (nothing_begins w (over l) (λ e. omega arith) f n t));
       }
 
-pub number_scalar : {s : List ℕ} {i j : ℕ} → Led s i value_due after_minus true j → {ok : Bool} {r : ℕ} → Number s j ok r → Scalar s i ok r
-number_scalar p q = record { moved = λ e. omega (arith, p.from, q.moved e); led = led_on p q.led }
+pub number_scalar : {s : List ℕ} {i j : ℕ} → Led s i value_due after_minus true j → (ok : Bool) (r : ℕ) → Number s j ok r → Scalar s i ok r
+number_scalar p ok r q = record { moved = λ e. omega (arith, p.from, q.moved e); led = led_on p q.led }

@@ -2,10 +2,11 @@
 #![tactic(auto)]
 
 ghost use Rattle.std.specs.Prelude.{[], ◌∷◌, ◌<◌, length, get_or};
+ghost use Rattle.encoding.specs.Reads.{Reads};
 ghost use Rattle.scalars.specs.Among.{AmongAt};
 ghost use Rattle.scalars.specs.Scalars.{Bare, Scalar};
 
-use encoding::Scan;
+use encoding::Read;
 
 mod numbers;
 mod words;
@@ -14,23 +15,16 @@ mod words;
 pub fn byte_at(s: &[u8], at: usize, n: u8) -> bool
     ensures { AmongAt (n ∷ []) s.now at result }
 {
-    if at >= s.len() {
-        return false;
-    }
-    if s[at] == n {
-        return true;
-    }
-    false
+    at < s.len() && s[at] == n
 }
 
 // Reads a number or a literal name, where a byte stands that begins neither a string nor a container.
-pub fn scalar_end(s: &[u8], at: usize) -> Scan
+pub fn scalar_end(s: &[u8], at: usize) -> Read
     requires { (at < length s.now) × Bare (get_or s.now at 0) }
-    ensures { Scalar s.now at result.ok result.at }
+    ensures { Reads (Scalar s.now at) result }
 {
     if s[at] > b'9' {
         return words::word_end(s, at);
     }
-    let first = numbers::minus_end(s, at);
-    numbers::number_end(s, first)
+    numbers::number_end(s, numbers::minus_end(s, at))
 }

@@ -8,12 +8,11 @@ use native.Mathlib.Omega.{arith}
 use lib.Dec.{eqb, ltb}
 use lib.ListN.{length, take, drop, get_or, length-drop}
 use lib.Seq.{slice, drop-drop, take-append_seam}
-use borrow.Author.Tests.{ltb-true, ltb-false, not-true, ne_eqb}
+use borrow.Author.Tests.{ltb-true, ltb-false, not-true}
 use Rattle.bits.specs.Truth.{neither}
 use Rattle.blocks.specs.Laws.{odd_drop}
 use Rattle.blocks.specs.Words.{odd_before}
 use Rattle.classifier.specs.Classes.{byte_at, is_backslash}
-use Rattle.encoding.specs.Class.{class_of}
 use Rattle.encoding.specs.Bytes.{Blanks, put_blanks, put_in}
 use Rattle.encoding.specs.BytesLaws.{blanks_split, length_blanks}
 use Rattle.encoding.specs.Unescape as U
@@ -394,27 +393,10 @@ module _ (s : List ℕ) (a b : ℕ) (first : EndsBlanks s a b) where
           bare = name.bare;
         }
 
--- a byte ends a word by its class
-module _ (b x : ℕ) (class_is : x ≡ class_of b) where
-  pub word_closing : x ≡ 2 → true ≡ ends_word_of b
-  unfolding ends_word_of
-  word_closing e = rw (sym class_is, e) refl
-
-  pub word_comma : x ≡ 4 → true ≡ ends_word_of b
-  unfolding ends_word_of
-  word_comma e = rw (sym class_is, e) refl
-
-  pub word_blank : (x ≡ 2 → ⊥) → (x ≡ 4 → ⊥) → eqb x 7 ≡ ends_word_of b
-  unfolding ends_word_of
-  word_blank f g = rw (sym class_is, ne_eqb x 2 f, ne_eqb x 4 g) refl
-
-pub word_over : (b : ℕ) (x : Bool) → x ≡ ends_word_of b → x ≡ true → is_word_byte b ≡ false
+-- what a byte that ends a word, or does not, is to a word
+pub word_byte : (b : ℕ) {x : Bool} → x ≡ ends_word_of b → is_word_byte b ≡ not x
 unfolding is_word_byte
-word_over b x e f = ap not (sym e ∙ f)
-
-pub word_on : (b : ℕ) (x : Bool) → x ≡ ends_word_of b → x ≡ false → is_word_byte b ≡ true
-unfolding is_word_byte
-word_on b x e f = ap not (sym e ∙ f)
+word_byte b e = ap not (sym e)
 
 -- the loop over a string's inside: what has been shown at place i
 pub record Within (s : List ℕ) (a i : ℕ) : Type 0 where

@@ -3,25 +3,26 @@
 
 ghost use Rattle.std.specs.Prelude.{◌≡◌, false, ◌-◌, ◌≤◌, length, drop};
 ghost use Rattle.blocks.specs.Words.{odd_before};
-ghost use Rattle.encoding.specs.ClassTable.{ClassTable};
 ghost use Rattle.swar.specs.Run.{Run};
 ghost use Rattle.scan.specs.Shape.{ends_word_of};
 ghost use Rattle.scan.specs.Scans.{is_word_byte, EndsBlanks, EndsString, EndsName, EndsScalar, EntersItem};
+
+use lanes::{Bare, Inner, Unquoted};
 
 const QUOTE: u8 = 0x22;
 
 const BACKSLASH: u8 = 0x5C;
 
 // The place after a name's closing quote, and whether a backslash may be among the name's bytes; false where none is.
-#[derive(Drop)]
+#[derive(Clone, Copy)]
 struct NameEnd {
     end: usize,
     escaped: bool,
 }
 
 // The first byte of an item's value, where its name's bytes are, and whether a backslash may be among these; false where none is. In an array both
-// ends are 0.
-#[derive(Drop)]
+// ends are 0. The name is no Option: what the walks show of EntersItem is of its numbers, and whether an item has a name is told by `object`.
+#[derive(Clone, Copy)]
 pub struct Entered {
     pub value: usize,
     pub from: usize,
@@ -29,19 +30,23 @@ pub struct Entered {
     pub escaped: bool,
 }
 
+// An item without a name.
+const UNNAMED: Entered = Entered {
+    value: 0,
+    from: 0,
+    to: 0,
+    escaped: false,
+};
+
 // Whether `b` ends a literal or a number.
-fn ends_word(classes: &[u8; 256], b: u8) -> bool
-    requires { ClassTable classes.now }
+#[tactic(auto, unfolding(crate::specs::Shape::ends_word_of))]
+fn ends_word(b: u8) -> bool
     ensures { result ≡ ends_word_of b }
 {
-    let c = encoding::class(classes, b);
-    if c == encoding::CLOSING {
-        return true;
-    }
-    if c == encoding::COMMA {
-        return true;
-    }
-    c == encoding::BLANK
+    matches!(
+        encoding::class(b),
+        encoding::CLOSING | encoding::COMMA | encoding::BLANK
+    )
 }
 
 // The place after the blanks at `at`: a checked record has no other bytes up to the space outside its strings.
@@ -59,14 +64,11 @@ fn escaped(s: &[u8], from: usize, q: usize) -> bool
     ensures { result ≡ odd_before false (drop from s.now) (q - from) }
 {
     let mut odd = false;
-    let mut i = q;
-    while i > from {
-        let before = i - 1;
+    for before in (from..q).rev() {
         if s[before] != BACKSLASH {
             return odd;
         }
         odd = !odd;
-        i = before;
     }
     odd
 }
@@ -78,7 +80,7 @@ pub fn string_end(s: &[u8], at: usize) -> usize
 {
     let mut i = at;
     loop {
-        let q = swar::unquoted_run(s, i);
+        let q = swar::run::<Unquoted>(s, i);
         if q >= s.len() {
             return q;
         }
@@ -94,14 +96,12 @@ fn name_end(s: &[u8], at: usize) -> NameEnd
     requires { at ≤ length s.now }
     ensures { EndsName s.now at result.end result.escaped }
 {
-    let q = swar::bare_run(s, at);
-    if q < s.len() {
-        if s[q] == QUOTE {
-            return NameEnd {
-                end: q + 1,
-                escaped: false,
-            };
-        }
+    let q = swar::run::<Bare>(s, at);
+    if q < s.len() && s[q] == QUOTE {
+        return NameEnd {
+            end: q + 1,
+            escaped: false,
+        };
     }
     NameEnd {
         end: string_end(s, q),
@@ -110,18 +110,17 @@ fn name_end(s: &[u8], at: usize) -> NameEnd
 }
 
 // The end of the bytes from `at` on that do not end a literal or a number: most of them are passed eight at a time.
-fn word_run(classes: &[u8; 256], s: &[u8], at: usize) -> usize
-    requires at_in_bounds { at ≤ length s.now }
-    requires class_table { ClassTable classes.now }
+fn word_run(s: &[u8], at: usize) -> usize
+    requires { at ≤ length s.now }
     ensures { Run is_word_byte s.now at result }
 {
     let mut i = at;
     loop {
-        let end = swar::inner_run(s, i);
+        let end = swar::passed::<Inner>(s, i);
         if end >= s.len() {
             return end;
         }
-        if ends_word(classes, s[end]) {
+        if ends_word(s[end]) {
             return end;
         }
         i = end + 1;
@@ -129,9 +128,8 @@ fn word_run(classes: &[u8; 256], s: &[u8], at: usize) -> usize
 }
 
 // The place after the scalar at `at`.
-pub fn scalar_end(classes: &[u8; 256], s: &[u8], at: usize) -> usize
-    requires at_in_bounds { at ≤ length s.now }
-    requires class_table { ClassTable classes.now }
+pub fn scalar_end(s: &[u8], at: usize) -> usize
+    requires { at ≤ length s.now }
     ensures { EndsScalar s.now at result }
 {
     if at >= s.len() {
@@ -140,7 +138,7 @@ pub fn scalar_end(classes: &[u8; 256], s: &[u8], at: usize) -> usize
     if s[at] == QUOTE {
         return string_end(s, at + 1);
     }
-    word_run(classes, s, at)
+    word_run(s, at)
 }
 
 // Passes the blanks at `at` and, in an object, the name and its colon: the first byte of the item's value.
@@ -149,40 +147,20 @@ pub fn enter_item(s: &[u8], at: usize, object: bool) -> Entered
     ensures { EntersItem s.now at object result.value result.from result.to result.escaped }
 {
     let a = skip_blanks(s, at);
-    if !object {
+    if !object || a >= s.len() {
         return Entered {
             value: a,
-            from: 0,
-            to: 0,
-            escaped: false,
-        };
-    }
-    if a >= s.len() {
-        return Entered {
-            value: a,
-            from: 0,
-            to: 0,
-            escaped: false,
+            ..UNNAMED
         };
     }
     let from = a + 1;
     let name = name_end(s, from);
     let end = name.end;
     let colon = skip_blanks(s, end);
-    if colon >= s.len() {
+    if colon >= s.len() || end <= from {
         return Entered {
             value: colon,
-            from: 0,
-            to: 0,
-            escaped: false,
-        };
-    }
-    if end <= from {
-        return Entered {
-            value: colon,
-            from: 0,
-            to: 0,
-            escaped: false,
+            ..UNNAMED
         };
     }
     let value = skip_blanks(s, colon + 1);

@@ -1,160 +1,175 @@
-// The descent from the root of a checked record to the value that begins at an offset, value by value.
+// The descent from the root of a checked record to the value that begins at an offset, value by value. It tells a keeper how each container on
+// the way hangs below the one around it.
 #![tactic(auto)]
 
-ghost use Rattle.std.specs.Prelude.{◌≤◌, length};
-ghost use Rattle.encoding.specs.ClassTable.{ClassTable};
+ghost use Rattle.std.specs.Prelude.{◌≡◌, ◌≤◌, length, ⊤};
 ghost use Rattle.json_text.specs.Verdict.{max_bytes};
-ghost use Rattle.seek.specs.Seeks.{EndsValue, FirstItem, NextItem, SeeksValue, SeeksInside, FindsFrom};
+ghost use Rattle.seek.specs.Keeps.{link_if, KeepsFrom, KeepsInside, KeepsValue};
+ghost use Rattle.seek.specs.Seeks.{EndsValue, FindsFrom, FirstItem, NextItem, SeeksInside, SeeksValue};
 
 use encoding::{CLOSING, OPENING, class};
 use json_text::MAX_DEPTH;
-use leap::{leave, none_kept};
-use scan::{enter_item, scalar_end, skip_blanks};
+use leap::Leaper;
+use scan::{Entered, enter_item, scalar_end, skip_blanks};
+
+mod keeper;
+
+pub use keeper::{Keeper, KeptLink};
 
 const COMMA: u8 = 0x2C;
 
 // What opens an object.
-pub const BRACE: u8 = 0x7B;
+const BRACE: u8 = 0x7B;
 
-// Whether an item is ahead in a container, and where; where none is, the place after the closing bracket.
-#[derive(Drop)]
-pub struct Ahead {
-    pub item: bool,
-    pub at: usize,
-}
-
-// The end of the value that is looked for, or 0 where it was not found; then `at` is the place after what was looked through.
-#[derive(Drop)]
-struct Sought {
-    end: usize,
+// The place after what was looked through.
+#[derive(Clone, Copy)]
+struct After {
     at: usize,
 }
 
+// Where an item is ahead in a container; where none is, the place after the closing bracket.
+type Ahead = Result<usize, After>;
+
+// The end of the value that is looked for; where it was not found, the place after what was looked through.
+type Sought = Result<usize, After>;
+
 // The place after the value at `at`.
-pub fn value_end(classes: &[u8; 256], record: &[u8], at: usize) -> usize
-    requires class_table { ClassTable classes.now }
-    requires at_in_bounds { (at ≤ length «record».now) × (length «record».now ≤ max_bytes) }
+fn value_end(record: &[u8], at: usize) -> usize
+    requires { (at ≤ length «record».now) × (length «record».now ≤ max_bytes) }
     ensures { EndsValue «record».now at result }
 {
     if at >= record.len() {
         return at;
     }
-    if class(classes, record[at]) == OPENING {
-        let mut kept = none_kept();
-        return leave(record, at + 1, &mut kept);
+    if class(record[at]) == OPENING {
+        return Leaper::new(record).leave(at + 1);
     }
-    scalar_end(classes, record, at)
+    scalar_end(record, at)
 }
 
 // Passes the blanks behind an opening bracket: to the first item, or past the closing bracket.
-pub fn first_item(classes: &[u8; 256], record: &[u8], at: usize) -> Ahead
-    requires class_table { ClassTable classes.now }
-    requires at_in_bounds { at ≤ length «record».now }
-    ensures { FirstItem «record».now at result.item result.at }
+fn first_item(record: &[u8], at: usize) -> Ahead
+    requires { at ≤ length «record».now }
+    ensures { FirstItem «record».now at result }
 {
     let c = skip_blanks(record, at);
     if c >= record.len() {
-        return Ahead { item: false, at: c };
+        return Err(After { at: c });
     }
-    if class(classes, record[c]) == CLOSING {
-        return Ahead {
-            item: false,
-            at: c + 1,
-        };
+    if class(record[c]) == CLOSING {
+        return Err(After { at: c + 1 });
     }
-    Ahead { item: true, at: c }
+    Ok(c)
 }
 
 // Passes the blanks behind an item and the byte after them: the comma before the next item, or the closing bracket.
-pub fn next_item(record: &[u8], at: usize) -> Ahead
+fn next_item(record: &[u8], at: usize) -> Ahead
     requires { at ≤ length «record».now }
-    ensures { NextItem «record».now at result.item result.at }
+    ensures { NextItem «record».now at result }
 {
     let c = skip_blanks(record, at);
     if c >= record.len() {
-        return Ahead { item: false, at: c };
+        return Err(After { at: c });
     }
     if record[c] == COMMA {
-        return Ahead {
-            item: true,
-            at: c + 1,
+        return Ok(c + 1);
+    }
+    Err(After { at: c + 1 })
+}
+
+// How an item hangs below its container: in an object by the bounds of its name, in an array by its position.
+fn link(object: bool, item: Entered, position: usize) -> KeptLink
+    requires { (item.from ≤ max_bytes) × (item.to ≤ max_bytes) × (position ≤ max_bytes) }
+    ensures { result ≡ link_if object item.from item.to position }
+{
+    if object {
+        return KeptLink::Name {
+            from: item.from as u32,
+            to: item.to as u32,
         };
     }
-    Ahead {
-        item: false,
-        at: c + 1,
-    }
+    KeptLink::Position(position as u32)
 }
 
 // Looks for the value that begins at `offset` in the value at `at`: itself or one below it, of which `levels` may be opened.
-#[cycle(seek_inside_seek_value)]
-fn seek_value(classes: &[u8; 256], record: &[u8], offset: usize, at: usize, levels: usize) -> Sought
-    requires class_table { ClassTable classes.now }
-    requires at_in_bounds { (at ≤ length «record».now) × (length «record».now ≤ max_bytes) }
-    ensures { SeeksValue «record».now offset at levels result.end result.at }
+#[cycle(descent)]
+fn seek_value<K: Keeper>(
+    record: &[u8],
+    offset: usize,
+    at: usize,
+    levels: usize,
+    keeper: &mut K,
+) -> Sought
+    requires { (at ≤ length «record».now) × (length «record».now ≤ max_bytes) }
+    ensures seeks { SeeksValue «record».now offset at levels result }
+    ensures keeps { KeepsValue K.keeps «record».now offset at levels keeper.old keeper.new result }
 {
     if at == offset {
-        let end = value_end(classes, record, at);
-        return Sought { end, at: end };
+        return Ok(value_end(record, at));
     }
     if at > offset {
-        return Sought {
-            end: 0,
-            at: value_end(classes, record, at),
-        };
+        return Err(After {
+            at: value_end(record, at),
+        });
     }
     if at >= record.len() {
-        return Sought { end: 0, at };
+        return Err(After { at });
     }
     let b = record[at];
-    if class(classes, b) != OPENING {
-        return Sought {
-            end: 0,
-            at: scalar_end(classes, record, at),
-        };
+    if class(b) != OPENING {
+        return Err(After {
+            at: scalar_end(record, at),
+        });
     }
     if levels == 0 {
-        return Sought { end: 0, at };
+        return Err(After { at });
     }
-    seek_inside(classes, record, offset, at + 1, b == BRACE, levels - 1)
+    seek_inside(record, offset, at + 1, b == BRACE, levels - 1, keeper)
 }
 
 // The same among the items of the container whose opening bracket stands just before `at`.
-#[cycle(seek_inside_seek_value)]
-fn seek_inside(
-    classes: &[u8; 256],
+#[cycle(descent)]
+fn seek_inside<K: Keeper>(
     record: &[u8],
     offset: usize,
     at: usize,
     object: bool,
     levels: usize,
+    keeper: &mut K,
 ) -> Sought
-    requires class_table { ClassTable classes.now }
-    requires at_in_bounds { (at ≤ length «record».now) × (length «record».now ≤ max_bytes) }
-    ensures { SeeksInside «record».now offset at object levels result.end result.at }
+    requires { (at ≤ length «record».now) × (length «record».now ≤ max_bytes) }
+    ensures seeks { SeeksInside «record».now offset at object levels result }
+    ensures keeps { KeepsInside K.keeps «record».now offset at object levels keeper.old keeper.new result }
 {
-    let mut ahead = first_item(classes, record, at);
-    while ahead.item {
-        let item = enter_item(record, ahead.at, object);
-        let sought = seek_value(classes, record, offset, item.value, levels);
-        if sought.end != 0 {
-            return sought;
+    let mut ahead = first_item(record, at)?;
+    let mut position: usize = 0;
+    loop {
+        let item = enter_item(record, ahead, object);
+        match seek_value(record, offset, item.value, levels, keeper) {
+            Ok(end) => {
+                keeper.keep(link(object, item, position));
+                return Ok(end);
+            }
+            Err(after) => ahead = next_item(record, after.at)?,
         }
-        ahead = next_item(record, sought.at);
-    }
-    Sought {
-        end: 0,
-        at: ahead.at,
+        position += 1;
     }
 }
 
-// The end of the value of a record that begins at `offset`, or 0 where none does.
-pub fn find_from(classes: &[u8; 256], record: &[u8], offset: usize) -> usize
-    requires class_table { ClassTable classes.now }
-    requires record_len_bound { length «record».now ≤ max_bytes }
-    ensures { FindsFrom «record».now offset result }
+// The end of the value of a record that begins at `offset`, if one does. The keeper is told the links from it up to the root.
+pub fn seek_from<K: Keeper>(record: &[u8], offset: usize, keeper: &mut K) -> Option<usize>
+    requires { length «record».now ≤ max_bytes }
+    ensures finds { FindsFrom «record».now offset result }
+    ensures keeps { KeepsFrom K.keeps «record».now offset keeper.old keeper.new result }
 {
     let at = skip_blanks(record, 0);
-    let sought = seek_value(classes, record, offset, at, MAX_DEPTH);
-    sought.end
+    seek_value(record, offset, at, MAX_DEPTH, keeper).ok()
+}
+
+// The end of the value of a record that begins at `offset`, if one does.
+pub fn find_from(record: &[u8], offset: usize) -> Option<usize>
+    requires { length «record».now ≤ max_bytes }
+    ensures { FindsFrom «record».now offset result }
+{
+    seek_from(record, offset, &mut ())
 }

@@ -1,11 +1,12 @@
-// Reads what a program is given, into a lent buffer.
+// Reads what a program is given, into a lent buffer or into a room of its own that it lends.
 #![tactic(auto)]
 
-ghost use Rattle.std.specs.Prelude.{ℕ, ◌≤◌, ◌<◌, length, take, IfOk, OnErr};
+ghost use Rattle.std.specs.Prelude.{ℕ, ◌^◌, ◌≤◌, ◌<◌, List, length, take, IfOk, OnErr};
+ghost use Rattle.std.specs.Fn.{FnOnceReturnsAt};
 ghost use Rattle.std.specs.Io.KnownBytes.{Consumes, IsAtEnd};
 
 use std::io;
-use std::io::Read;
+use std::io::{Input, Read};
 
 // Reads until the buffer is full or the input ends, and answers how many bytes were read: they stand at the buffer's start. After an
 // error the bytes that were read before it stand there.
@@ -24,4 +25,18 @@ pub fn read_full<R: Read>(input: &mut R, buffer: &mut [u8]) -> io::Result<usize>
         size += more;
     }
     Ok(size)
+}
+
+// Reads standard input into a room of so many bytes, and lends what is read.
+pub fn with_input<const ROOM: usize, F: FnOnce(&[u8]) -> io::Result<()>>(
+    rt: &impl Input,
+    run: F,
+) -> io::Result<()>
+    requires room { ROOM < 2 ^ 63 }
+    requires callable { F.IsAlwaysCallable run }
+    ensures { IfOk result (λ u. (bytes : List ℕ) × (length bytes ≤ ROOM) × FnOnceReturnsAt F.FnOnce run bytes (Ok u)) }
+{
+    let mut room = [0u8; ROOM];
+    let size = read_full(&mut rt.reader(), &mut room)?;
+    run(&room[..size])
 }

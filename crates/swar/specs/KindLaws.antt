@@ -1,13 +1,14 @@
 -- Which bytes are of which kind, both ways.
-use Rattle.std.specs.Prelude.{◌≡◌, refl, Bool, true, false, not, ◌⊎◌, ℕ, ◌≤◌, ◌<◌, leb, eqb}
-use Rattle.std.proofs.Common.{sym, ap, ap₂, ◌∙◌, true≢false, inl, inr, arith}
-use borrow.Author.Tests.{leb-true, leb-false, le-leb, lt-leb, eq-eqb, ne_eqb, eqb-true, eqb-false}
+use Rattle.std.specs.Prelude.{◌≡◌, true, false, ◌⊎◌, ℕ, ◌≤◌, ◌<◌}
+use Rattle.std.proofs.Common.{sym, ◌∙◌, true≢false, inl, inr, ⊎_elim, arith}
+use borrow.Author.Tests.{le-leb, lt-leb, eq-eqb, ne_eqb, eqb-true}
+use Rattle.bits.specs.Laws.{lt_or_ge}
 use Rattle.encoding.specs.Bytes.{Blank, space, tab, feed, return, blank_byte}
 use Rattle.encoding.specs.BytesLaws.{inside, beneath, beyond}
 use Rattle.encoding.specs.Class.{class_of}
 use Rattle.encoding.specs.ClassLaws as Class
-use Rattle.lanes.specs.Kinds.{plain, unquoted, bare, gap, space_byte}
-use Rattle.swar.specs.Kinds.{blank, run_kind}
+use Rattle.lanes.specs.Kinds.{plain, gap, space_byte}
+use Rattle.swar.specs.Kinds.{blank}
 
 -- a plain byte, by the range that it is of
 pub data Plain (b : ℕ) : Type 0 where
@@ -38,39 +39,21 @@ module _ {b : ℕ} where
 
 -- every byte is one or the other
 pub plain_or_not : (b : ℕ) → Plain b ⊎ NotPlain b
-plain_or_not b = from (leb 0x20 b) refl (leb b 0x7F) refl (eqb b 0x22) refl (eqb b 0x5C) refl
-  where
-    ends :
-        0x20 ≤ b → b ≤ 0x7F → (b ≡ 0x22 → ⊥) → (b ≡ 0x5C → ⊥) → (x : Bool) → leb b 0x21 ≡ x → (y : Bool) → leb b 0x5B ≡ y →
-        Plain b
-    ends l h q s true e y g = low l (leb-true b 0x21 e)
-    ends l h q s false e true g = let u = leb-false b 0x21 e in mid (omega arith) (leb-true b 0x5B g)
-    ends l h q s false e false g = let u = leb-false b 0x5B g in high (omega arith) h
-
-    from :
-        (x : Bool) → leb 0x20 b ≡ x → (y : Bool) → leb b 0x7F ≡ y → (q : Bool) → eqb b 0x22 ≡ q → (s : Bool) → eqb b 0x5C ≡ s →
-        Plain b ⊎ NotPlain b
-    from false e y f q g s h = inr (control (leb-false 0x20 b e))
-    from true e false f q g s h = inr (wide (leb-false b 0x7F f))
-    from true e true f true g s h = inr (quote (eqb-true b 0x22 g))
-    from true e true f false g true h = inr (backslash (eqb-true b 0x5C h))
-    from true e true f false g false h =
-        inl (ends (leb-true 0x20 b e) (leb-true b 0x7F f) (eqb-false b 0x22 g) (eqb-false b 0x5C h) (leb b 0x21) refl (leb b 0x5B) refl)
+plain_or_not b =
+    ⊎_elim (λ (below : b < 0x20). inr (control below)) (λ (from : 0x20 ≤ b).
+    ⊎_elim (λ (below : b < 0x22). inl (low from (omega arith))) (λ (from : 0x22 ≤ b).
+    ⊎_elim (λ (below : b < 0x23). inr (quote (omega arith))) (λ (from : 0x23 ≤ b).
+    ⊎_elim (λ (below : b < 0x5C). inl (mid from (omega arith))) (λ (from : 0x5C ≤ b).
+    ⊎_elim (λ (below : b < 0x5D). inr (backslash (omega arith))) (λ (from : 0x5D ≤ b).
+    ⊎_elim (λ (below : b < 0x80). inl (high from (omega arith))) (λ (from : 0x80 ≤ b). inr (wide from))
+    (lt_or_ge b 0x80)) (lt_or_ge b 0x5D)) (lt_or_ge b 0x5C)) (lt_or_ge b 0x23)) (lt_or_ge b 0x22)) (lt_or_ge b 0x20)
 
 module _ {b : ℕ} where
   pub is_plain : plain b ≡ true → Plain b
-  is_plain e = go (plain_or_not b)
-    where
-      go : Plain b ⊎ NotPlain b → Plain b
-      go (inl p) = p
-      go (inr n) = absurd (true≢false (sym e ∙ plain_fails n))
+  is_plain e = ⊎_elim (λ p. p) (λ n. absurd (true≢false (sym e ∙ plain_fails n))) (plain_or_not b)
 
   pub not_plain : plain b ≡ false → NotPlain b
-  not_plain e = go (plain_or_not b)
-    where
-      go : Plain b ⊎ NotPlain b → NotPlain b
-      go (inl p) = absurd (true≢false (sym (plain_holds p) ∙ e))
-      go (inr n) = n
+  not_plain e = ⊎_elim (λ p. absurd (true≢false (sym (plain_holds p) ∙ e))) (λ n. n) (plain_or_not b)
 
   pub blank_holds : (w : Blank) → b ≡ blank_byte w → blank b ≡ true
   unfolding blank
@@ -93,25 +76,6 @@ module _ {b : ℕ} where
   above_blanks h feed e = omega arith
   above_blanks h return e = omega arith
 
-  -- from 20 to 7F all but two are plain
-  pub plain_within : 0x20 ≤ b → b ≤ 0x7F → (b ≡ 0x22 → ⊥) → (b ≡ 0x5C → ⊥) → plain b ≡ true
-  plain_within l h q s = go (plain_or_not b)
-    where
-      go : Plain b ⊎ NotPlain b → plain b ≡ true
-      go (inl p) = plain_holds p
-      go (inr (control u)) = absurd (omega arith)
-      go (inr (quote e)) = absurd (q e)
-      go (inr (backslash e)) = absurd (s e)
-      go (inr (wide u)) = absurd (omega arith)
-
-  pub bare_quote : b ≡ 0x22 → bare b ≡ false
-  unfolding bare
-  bare_quote e = rw e
-
-  pub bare_else : (b ≡ 0x22 → ⊥) → not (eqb b 0x5C) ≡ bare b
-  unfolding bare
-  bare_else f = rw (ne_eqb b 0x22 f)
-
   pub gap_holds : b ≤ 0x20 → gap b ≡ true
   unfolding gap
   gap_holds h = le-leb b 0x20 h
@@ -119,25 +83,6 @@ module _ {b : ℕ} where
   pub gap_fails : 0x20 < b → gap b ≡ false
   unfolding gap
   gap_fails h = lt-leb b 0x20 h
-
--- a kind by its number
-module _ {k : ℕ} where
-  pub kind_gap : k ≡ 2 → run_kind k ≡ gap
-  kind_gap e = rw e
-
-  pub kind_unquoted : k ≡ 1 → run_kind k ≡ unquoted
-  kind_unquoted e = rw e
-
-  pub kind_bare : k ≡ 3 → run_kind k ≡ bare
-  kind_bare e = rw e
-
-  pub kind_plain : (k ≡ 2 → ⊥) → (k ≡ 1 → ⊥) → (k ≡ 3 → ⊥) → run_kind k ≡ plain
-  kind_plain g u b =
-      ap (λ (x : Bool). elim x [ true ↦ gap | false ↦ rest (eqb k 1) (eqb k 3) ]) (ne_eqb k 2 g)
-      ∙ ap₂ rest (ne_eqb k 1 u) (ne_eqb k 3 b)
-    where
-      rest : Bool → Bool → ℕ → Bool
-      rest x y = elim x [ true ↦ unquoted | false ↦ elim y [ true ↦ bare | false ↦ plain ] ]
 
 pub space_blank : (b : ℕ) → space_byte b ≡ true → blank b ≡ true
 unfolding space_byte

@@ -2,146 +2,95 @@
 #![tactic(auto)]
 
 ghost use Rattle.std.specs.Prelude.{◌≤◌, ◌≡◌, length};
-ghost use Rattle.lanes.specs.Kinds.{plain, unquoted, bare, inner, digit, gap, space_byte};
-ghost use Rattle.lanes.specs.Stops.{Stops};
-ghost use Rattle.swar.specs.Kinds.{blank, run_kind};
-ghost use Rattle.swar.specs.Run.{Passed, Run};
+ghost use Rattle.lanes.specs.Kinds.{digit, gap};
+ghost use Rattle.swar.specs.Kinds.{blank};
+ghost use Rattle.swar.specs.Run.{Eights, Passed, Run};
 
-const QUOTE: u8 = 0x22;
+use lanes::{Bare, Digit, Gap, Kind, Plain, Space, Unquoted};
 
-const BACKSLASH: u8 = 0x5C;
+const SPACE: u8 = b' ';
 
-const SPACE: u8 = 0x20;
-
-const TAB: u8 = 0x09;
-
-const LINE_FEED: u8 = 0x0A;
-
-const CARRIAGE_RETURN: u8 = 0x0D;
-
-// The kinds of bytes whose runs are read eight bytes at a time: plain in a string, no quote, up to the space, and neither quote nor backslash.
-const PLAIN: u8 = 0;
-
-const UNQUOTED: u8 = 1;
-
-const GAP: u8 = 2;
-
-const BARE: u8 = 3;
-
-// Whether `b` is a plain byte of a string.
-fn is_plain(b: u8) -> bool
-    ensures { result ≡ plain b }
-{
-    if b == QUOTE {
-        return false;
-    }
-    if b == BACKSLASH {
-        return false;
-    }
-    if b < 0x20 {
-        return false;
-    }
-    if b > 0x7F {
-        return false;
-    }
-    true
+// A kind of bytes that is told of one byte, too, so that runs of it are read to their ends.
+pub trait RunKind: Kind {
+    // Whether `b` is of the kind.
+    fn is_of(b: u8) -> bool
+        ensures { result ≡ Self.kind b };
 }
 
-// Whether `b` is neither a quote nor a backslash.
-fn is_bare(b: u8) -> bool
-    ensures { result ≡ bare b }
-{
-    if b == QUOTE {
-        return false;
+impl RunKind for Plain {
+    #[tactic(auto, unfolding(lanes::specs::Kinds::plain))]
+    fn is_of(b: u8) -> bool {
+        matches!(b, 0x20..=0x21 | 0x23..=0x5B | 0x5D..=0x7F)
     }
-    b != BACKSLASH
 }
 
-// Whether `b` is of the kind.
-fn is_of(b: u8, kind: u8) -> bool
-    ensures { result ≡ run_kind kind b }
-{
-    if kind == GAP {
-        return b <= SPACE;
+impl RunKind for Unquoted {
+    #[tactic(auto, unfolding(lanes::specs::Kinds::unquoted))]
+    fn is_of(b: u8) -> bool {
+        b != b'"'
     }
-    if kind == UNQUOTED {
-        return b != QUOTE;
-    }
-    if kind == BARE {
-        return is_bare(b);
-    }
-    is_plain(b)
 }
 
-// Of eight bytes, those before the first that is not of the kind come back as 0, and that one not.
-fn stops(x: u64, kind: u8) -> u64
-    ensures { Stops (run_kind kind) x result }
-{
-    if kind == GAP {
-        return lanes::gap_stops(x);
+impl RunKind for Bare {
+    #[tactic(auto, unfolding(lanes::specs::Kinds::bare))]
+    fn is_of(b: u8) -> bool {
+        !matches!(b, b'"' | b'\\')
     }
-    if kind == UNQUOTED {
-        return lanes::unquoted_stops(x);
-    }
-    if kind == BARE {
-        return lanes::bare_stops(x);
-    }
-    lanes::plain_stops(x)
 }
 
-// The end of the run from `at` on, byte by byte.
-fn run_tail(s: &[u8], at: usize, kind: u8) -> usize
+impl RunKind for Gap {
+    #[tactic(auto, unfolding(lanes::specs::Kinds::gap))]
+    fn is_of(b: u8) -> bool {
+        b <= SPACE
+    }
+}
+
+// The end of the run from `at` on, byte by byte: of the last few bytes alone, and so kept out of the loops that call it.
+#[inline(never)]
+fn run_tail<K: RunKind>(s: &[u8], at: usize) -> usize
     requires { at ≤ length s.now }
-    ensures { Run (run_kind kind) s.now at result }
+    ensures { Run K.kind s.now at result }
 {
-    let mut i = at;
-    while i < s.len() {
-        if !is_of(s[i], kind) {
-            return i;
-        }
-        i += 1;
-    }
-    i
+    at + s[at..].iter().take_while(|b| K::is_of(**b)).count()
 }
 
-// The end of the run from `at` on, eight bytes at a time.
-fn run_bytes(s: &[u8], at: usize, kind: u8) -> usize
+// The first byte that is not of the kind, among those that stand from `at` on eight by eight; or, where all of these are, the place behind them.
+// They are counted by hand: over pieces of eight the place would be counted beside them.
+fn eights<K: Kind>(s: &[u8], at: usize) -> Result<usize, usize>
     requires { at ≤ length s.now }
-    ensures { Run (run_kind kind) s.now at result }
+    ensures { Eights K.kind s.now at result }
 {
     let mut i = at;
     while s.len() - i >= 8 {
-        let w = stops(bits::load8(s, i), kind);
+        let w = K::stops(bits::load8(s, i));
         if w != 0 {
-            return i + lanes::zero_bytes(w);
+            return Ok(i + lanes::zero_bytes(w));
         }
         i += 8;
     }
-    run_tail(s, i, kind)
+    Err(i)
 }
 
-// The end of the plain bytes of a string from `at` on: 20-21, 23-5B, 5D-7F.
-pub fn plain_run(s: &[u8], at: usize) -> usize
+// The end of the run of the kind from `at` on.
+pub fn run<K: RunKind>(s: &[u8], at: usize) -> usize
     requires { at ≤ length s.now }
-    ensures { Run plain s.now at result }
+    ensures { Run K.kind s.now at result }
 {
-    run_bytes(s, at, PLAIN)
+    match eights::<K>(s, at) {
+        Ok(end) => end,
+        Err(left) => run_tail::<K>(s, left),
+    }
 }
 
-// The end of the bytes from `at` on that are no quotes.
-pub fn unquoted_run(s: &[u8], at: usize) -> usize
+// A place from `at` on up to which all bytes are of the kind: all such where eight bytes more stand there.
+pub fn passed<K: Kind>(s: &[u8], at: usize) -> usize
     requires { at ≤ length s.now }
-    ensures { Run unquoted s.now at result }
+    ensures { Passed K.kind s.now at result }
 {
-    run_bytes(s, at, UNQUOTED)
-}
-
-// The end of the bytes from `at` on that are neither quotes nor backslashes.
-pub fn bare_run(s: &[u8], at: usize) -> usize
-    requires { at ≤ length s.now }
-    ensures { Run bare s.now at result }
-{
-    run_bytes(s, at, BARE)
+    match eights::<K>(s, at) {
+        Ok(end) => end,
+        Err(left) => left,
+    }
 }
 
 // The end of the bytes up to the space from `at` on: at once where none stands there, or one alone.
@@ -162,45 +111,15 @@ pub fn gap_run(s: &[u8], at: usize) -> usize
     if s[next] > SPACE {
         return next;
     }
-    run_bytes(s, next + 1, GAP)
+    run::<Gap>(s, next + 1)
 }
 
 // Whether `b` is a blank.
+#[tactic(auto, unfolding(crate::specs::Kinds::blank, encoding::specs::Class::class_of))]
 fn is_blank(b: u8) -> bool
     ensures { result ≡ blank b }
 {
-    if b > SPACE {
-        return false;
-    }
-    if b == SPACE {
-        return true;
-    }
-    if b == LINE_FEED {
-        return true;
-    }
-    if b == CARRIAGE_RETURN {
-        return true;
-    }
-    if b == TAB {
-        return true;
-    }
-    false
-}
-
-// A place after `at` up to which there are spaces only: all of them where eight bytes more stand there.
-fn spaces(s: &[u8], at: usize) -> usize
-    requires { at ≤ length s.now }
-    ensures { Passed space_byte s.now at result }
-{
-    let mut i = at;
-    while s.len() - i >= 8 {
-        let w = lanes::space_stops(bits::load8(s, i));
-        if w != 0 {
-            return i + lanes::zero_bytes(w);
-        }
-        i += 8;
-    }
-    i
+    matches!(b, b' ' | b'\t' | b'\n' | b'\r')
 }
 
 // The end of the blanks from `at` on, one blank and the spaces after it at a time.
@@ -213,7 +132,7 @@ fn blanks(s: &[u8], at: usize) -> usize
         if !is_blank(s[i]) {
             return i;
         }
-        i = spaces(s, i + 1);
+        i = passed::<Space>(s, i + 1);
     }
     i
 }
@@ -240,37 +159,6 @@ pub fn blank_run(s: &[u8], at: usize) -> usize
     blanks(s, at)
 }
 
-// A place from `at` on up to which all bytes are from 2D on and no closing brackets: all such where eight bytes more stand there.
-pub fn inner_run(s: &[u8], at: usize) -> usize
-    requires { at ≤ length s.now }
-    ensures { Passed inner s.now at result }
-{
-    let mut i = at;
-    while s.len() - i >= 8 {
-        let w = lanes::inner_stops(bits::load8(s, i));
-        if w != 0 {
-            return i + lanes::zero_bytes(w);
-        }
-        i += 8;
-    }
-    i
-}
-
-// A place from `at` on up to which there are digits: as many times eight as stand there.
-pub fn digit_words(s: &[u8], at: usize) -> usize
-    requires { at ≤ length s.now }
-    ensures { Passed digit s.now at result }
-{
-    let mut i = at;
-    while s.len() - i >= 8 {
-        if lanes::digit_stops(bits::load8(s, i)) != 0 {
-            return i;
-        }
-        i += 8;
-    }
-    i
-}
-
 // A place from `at` on up to which there are digits: all of those that stand there, up to eight, where a point is near, and else none.
 pub fn digits_to_point(s: &[u8], at: usize) -> usize
     requires { at ≤ length s.now }
@@ -283,5 +171,5 @@ pub fn digits_to_point(s: &[u8], at: usize) -> usize
     if !lanes::has_point(x) {
         return at;
     }
-    at + lanes::zero_bytes(lanes::digit_stops(x))
+    at + lanes::zero_bytes(Digit::stops(x))
 }

@@ -1,9 +1,10 @@
 -- Laws of numbers in decimal: a number's digits are those of its tenth and one more, so each law goes by that.
-use Rattle.std.specs.Prelude.{◌≡◌, refl, Bool, true, false, ℕ, zero, suc, ◌+◌, ◌-◌, ◌*◌, ◌/◌, ◌%◌, ◌^◌, ◌≤◌, ◌<◌, ltb, length, get_or}
+use Rattle.std.specs.Prelude.{◌≡◌, refl, Bool, true, false, ℕ, zero, suc, max, ◌+◌, ◌-◌, ◌*◌, ◌/◌, ◌%◌, ◌^◌, ◌≤◌, ◌<◌, ltb, length, get_or}
 use Rattle.std.proofs.Common.{ap, sym, ◌∙◌, ⊎_elim, pow-suc, arith, ltb-true, ltb-false, length-append}
 use mathlib.Core.List.Memᴰ
 use mathlib.Core.List.{List, [], ◌∷◌, ◌++◌, Memᴰ}
 use Rattle.std.proofs.Math.ListN.{get_or-append}
+use Rattle.std.proofs.Math.Nat.{one-le-pow}
 use Rattle.encoding.specs.Decimal.{read_on, value_of}
 use Rattle.encoding.specs.DecimalLaws.{read_append}
 use Rattle.text.specs.Decimal.{digit, digits_of, decimal}
@@ -132,6 +133,19 @@ decimal-length (suc k) n h = go (ltb n 10) refl (decimal-length k (n / 10) (omeg
 -- one digit more than its tenth
 pub decimal_longer : (n : ℕ) → 10 ≤ n → length (decimal n) ≡ length (decimal (n / 10)) + 1
 decimal_longer n h = rw (decimal_more n h) (length-append (decimal (n / 10)) (digit (n % 10) ∷ []))
+
+-- a number from ten to the k on has more than k
+decimal_least : (k n : ℕ) → 10 ^ k ≤ n → suc k ≤ length (decimal n)
+decimal_least zero n h = omega (arith, decimal_some n)
+decimal_least (suc k) n h =
+    let l : 10 ≤ n = omega (arith, pow-suc 10 k, one-le-pow k 10 (omega arith)) in
+    omega (arith, decimal_least k (n / 10) (omega (arith, pow-suc 10 k)), decimal_longer n l)
+
+-- a power of ten says how many digits a number has; 0 has as many as 1
+pub decimal_count : (k n : ℕ) → 10 ^ k ≤ max n 1 → max n 1 < 10 * 10 ^ k → length (decimal n) ≡ k + 1
+decimal_count zero zero h l = rw (decimal_small 0 (omega arith))
+decimal_count (suc k) zero h l = absurd (omega (arith, pow-suc 10 k, one-le-pow k 10 (omega arith)))
+decimal_count k (suc n) h l = omega (arith, decimal_least k (suc n) (omega arith), decimal-length k (suc n) (omega (arith, pow-suc 10 k)))
 
 -- a number of 32 bits has at most ten digits
 pub decimal_word : (n : ℕ) → n < 2 ^ 32 → length (decimal n) ≤ 10

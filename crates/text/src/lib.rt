@@ -11,6 +11,7 @@ const ZERO: u8 = b'0';
 const BASE: u32 = 10;
 
 // Writes one byte.
+#[tactic(auto, using(crate::specs::PutLaws::put_one))]
 pub fn write_byte(out: &mut [u8], at: usize, byte: u8) -> usize
     requires { Room (byte ∷ []) at out.old }
     ensures { Written (byte ∷ []) at out.old out.new result }
@@ -20,46 +21,36 @@ pub fn write_byte(out: &mut [u8], at: usize, byte: u8) -> usize
 }
 
 // Writes the bytes of a word.
+#[tactic(auto, unfolding(crate::specs::Put::put))]
 pub fn write_word(out: &mut [u8], at: usize, word: &[u8]) -> usize
     requires { Room word.now at out.old }
     ensures { Written word.now at out.old out.new result }
 {
-    let mut i = 0;
-    while i < word.len() {
-        out[at + i] = word[i];
-        i += 1;
-    }
-    at + i
+    let end = at + word.len();
+    out[at..end].copy_from_slice(word);
+    end
 }
 
 // How many digits a number has in decimal.
+#[tactic(auto, using(crate::specs::DecimalLaws::decimal_count))]
 pub fn digit_count(number: u32) -> usize
     ensures { result ≡ length (decimal number) }
 {
-    let mut count: usize = 1;
-    let mut rest = number;
-    while rest >= BASE {
-        rest /= BASE;
-        count += 1;
-    }
-    count
+    number.max(1).ilog10() as usize + 1
 }
 
-// Writes a number in decimal, the last digit first.
+// Writes a number in decimal, the last digit first. By hand: a formatter over the buffer would bring an error that cannot come.
 fn write_decimal(out: &mut [u8], at: usize, number: u32) -> usize
     requires { Room (decimal number) at out.old }
     ensures { Written (decimal number) at out.old out.new result }
 {
-    let size = digit_count(number);
-    let mut end = at + size;
+    let end = at + digit_count(number);
     let mut rest = number;
-    while rest >= BASE {
-        end -= 1;
-        out[end] = ZERO + (rest % BASE) as u8;
+    for i in (at..end).rev() {
+        out[i] = ZERO + (rest % BASE) as u8;
         rest /= BASE;
     }
-    out[at] = ZERO + rest as u8;
-    at + size
+    end
 }
 
 // Writes a number in decimal and the byte after it.

@@ -1,3 +1,2 @@
-pub mod SlotLaws
 pub mod Slots
 pub mod Traces

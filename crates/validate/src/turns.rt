@@ -1,204 +1,165 @@
 // The turns of the check: what is due is read, and the containers around it are kept.
 ghost use Rattle.std.specs.Prelude.{◌≡◌, ◌≤◌, ◌<◌, length, get_or};
-ghost use Rattle.encoding.specs.RowTable.{RowTable};
+ghost use Rattle.encoding.specs.Reads.{Reads};
+ghost use Rattle.encoding.specs.Refusals.{refusing};
+ghost use Rattle.encoding.specs.declared.refusals.Ground.TheVariants.{RecordWrong};
 ghost use Rattle.json_text.specs.Grammar as grammar;
 ghost use Rattle.json_text.specs.Led.{Led};
-ghost use Rattle.json_text.specs.Machine.{colon, value_due};
-ghost use Rattle.moves.specs.Moves.{Leads};
+ghost use Rattle.json_text.specs.Machine.{Stack, colon, value_due};
 ghost use Rattle.validate.specs.Nesting.{kind_of};
-ghost use Rattle.validate.specs.Texts.{Texted};
-ghost use Rattle.validate.specs.Turns.{standing, ItemDue, Opens, Ready, Turned, TurnTo};
+ghost use Rattle.validate.specs.Turns.{ItemDue, standing, Ready, Turned};
 
-use encoding::{Rows, Scan};
-use json_text::MAX_DEPTH;
-
-// The kinds of containers.
-const ARRAY: u8 = 0;
-
-const OBJECT: u8 = 1;
+use crate::nest::{Kind, Nest};
+use encoding::{Dead, Ground, Read, Refusal};
+use moves::Moves;
 
 // What is due: a value, a member's name, or what follows a value.
-pub const VALUE: u8 = 0;
-
-pub const NAME: u8 = 1;
-
-pub const AFTER: u8 = 2;
-
-// Grounds of refusal, and that of none.
-const NO_GROUND: u8 = 0;
-
-const NO_JSON: u8 = 5;
-
-const TOO_DEEP: u8 = 6;
-
-// Where a turn has come to: what is due there, at a depth; or, with a ground, the place of the refusal.
-#[derive(Drop)]
-pub struct Turn {
-    pub ground: u8,
-    pub at: usize,
-    pub depth: usize,
-    pub due: u8,
+#[derive(Clone, Copy)]
+pub enum Due {
+    Value,
+    Name,
+    After,
 }
 
-// A turn to place `at`, or, where `ok` is false, the refusal of the byte there.
-fn turn_to(ok: bool, at: usize, depth: usize, due: u8) -> Turn
-    ensures { TurnTo ok at depth due result.ground result.at result.depth result.due }
+// Where a turn has come to, and what is due there.
+#[derive(Clone, Copy)]
+pub struct Turn {
+    pub at: usize,
+    pub due: Due,
+}
+
+// The refusal of a dead byte.
+pub fn wrong(dead: Dead) -> Refusal
+    ensures { result ≡ refusing RecordWrong dead.at }
 {
-    if ok {
-        return Turn {
-            ground: NO_GROUND,
-            at,
-            depth,
-            due,
-        };
-    }
-    Turn {
-        ground: NO_JSON,
-        at,
-        depth,
-        due,
+    Refusal {
+        ground: Ground::RecordWrong,
+        place: dead.at,
     }
 }
 
 // What is due as an item of a container of this kind.
-fn item_due(kind: u8) -> u8
+fn item_due(kind: Kind) -> Due
     ensures { ItemDue kind result }
 {
-    if kind == ARRAY {
-        return VALUE;
+    match kind {
+        Kind::Array => Due::Value,
+        Kind::Object => Due::Name,
     }
-    NAME
-}
-
-// The bracket that closes a container of this kind.
-fn closing(kind: u8) -> u8
-    ensures { result ≡ grammar.closing (kind_of kind) }
-{
-    if kind == ARRAY {
-        return b']';
-    }
-    b'}'
 }
 
 // Opens a container at its bracket, up to where its first item is due, and closes it where it is empty.
-fn open(s: &[u8], kinds: &mut [u8; MAX_DEPTH], at: usize, depth: usize, kind: u8) -> Turn
-    requires { Ready s.now kinds.old depth at × Opens kind (get_or s.now at 0) }
-    ensures { Turned (standing s.now 0 kinds.old depth at) s.now at kinds.new result.ground result.at result.depth result.due }
+fn open(s: &[u8], nest: &mut Nest, at: usize, kind: Kind) -> Result<Turn, Refusal>
+    requires { Ready s.now at × (get_or s.now at 0 ≡ grammar.opening (kind_of kind)) }
+    ensures { Turned (standing s.now Due.Value nest.old at) s.now at nest.new result }
 {
-    if depth >= MAX_DEPTH {
-        return Turn {
-            ground: TOO_DEEP,
-            at,
-            depth,
-            due: VALUE,
-        };
+    if nest.is_full() {
+        return Err(Refusal {
+            ground: Ground::TooDeep,
+            place: at,
+        });
     }
-    kinds[depth] = kind;
+    nest.push(kind);
     let next = swar::blank_run(s, at + 1);
-    if scalars::byte_at(s, next, closing(kind)) {
-        return turn_to(true, next + 1, depth, AFTER);
+    if scalars::byte_at(s, next, kind.closing()) {
+        nest.pop();
+        return Ok(Turn {
+            at: next + 1,
+            due: Due::After,
+        });
     }
-    turn_to(true, next, depth + 1, item_due(kind))
+    Ok(Turn {
+        at: next,
+        due: item_due(kind),
+    })
 }
 
-// Reads a value that is no string, up to its end or into a container.
-fn value(s: &[u8], kinds: &mut [u8; MAX_DEPTH], at: usize, depth: usize) -> Turn
-    requires { Ready s.now kinds.old depth at × (get_or s.now at 0 ≡ 0x22 → ⊥) }
-    ensures { Turned (standing s.now 0 kinds.old depth at) s.now at kinds.new result.ground result.at result.depth result.due }
+// Reads a value up to its end, or into a container.
+fn value(s: &[u8], moves: &Moves, nest: &mut Nest, at: usize) -> Result<Turn, Refusal>
+    requires { Ready s.now at }
+    ensures { Turned (standing s.now Due.Value nest.old at) s.now at nest.new result }
 {
-    let b = s[at];
-    if b == b'{' {
-        return open(s, kinds, at, depth, OBJECT);
-    }
-    if b == b'[' {
-        return open(s, kinds, at, depth, ARRAY);
-    }
-    let scalar = scalars::scalar_end(s, at);
-    turn_to(scalar.ok, scalar.at, depth, AFTER)
+    let end = match s[at] {
+        b'{' => return open(s, nest, at, Kind::Object),
+        b'[' => return open(s, nest, at, Kind::Array),
+        b'"' => characters::string_end(s, moves, at + 1),
+        _ => scalars::scalar_end(s, at),
+    };
+    Ok(Turn {
+        at: end.map_err(wrong)?,
+        due: Due::After,
+    })
 }
 
 // Reads the colon after a name: at once where it follows, or after blanks.
-fn colon_end(s: &[u8], at: usize) -> Scan
+fn colon_end(s: &[u8], at: usize) -> Read
     requires { at ≤ length s.now }
-    ensures { Led s.now at colon value_due result.ok result.at }
+    ensures { Reads (Led s.now at colon value_due) result }
 {
     if scalars::byte_at(s, at, b':') {
-        return Scan {
-            ok: true,
-            at: at + 1,
-        };
+        return Ok(at + 1);
     }
     let place = swar::blank_run(s, at);
     if !scalars::byte_at(s, place, b':') {
-        return Scan {
-            ok: false,
-            at: place,
-        };
+        return Err(Dead { at: place });
     }
-    Scan {
-        ok: true,
-        at: place + 1,
-    }
+    Ok(place + 1)
 }
 
-// Reads a string, where a value or a name is due, and the colon after a name.
-fn text(s: &[u8], rows: &Rows, table: &[u64; 256], at: usize, depth: usize, due: u8) -> Turn
-    requires { RowTable rows.now × (at < length s.now) × (get_or s.now at 0 ≡ 0x22) × (due < 2) × Leads table.now }
-    ensures { Texted s.now at depth due result.ground result.at result.depth result.due }
+// Reads a member's name and the colon after it.
+fn name(s: &[u8], moves: &Moves, at: usize) -> Result<Turn, Refusal>
+    requires { Ready s.now at }
+    ensures { (k : Stack) → Turned (standing s.now Due.Name k at) s.now at k result }
 {
-    let string = characters::string_end(s, rows, table, at + 1);
-    let end = string.at;
-    if !string.ok {
-        return turn_to(false, end, depth, AFTER);
+    if s[at] != b'"' {
+        return Err(wrong(Dead { at }));
     }
-    if due == VALUE {
-        return turn_to(true, end, depth, AFTER);
-    }
-    let name = colon_end(s, end);
-    turn_to(name.ok, name.at, depth, VALUE)
+    let end = characters::string_end(s, moves, at + 1).map_err(wrong)?;
+    Ok(Turn {
+        at: colon_end(s, end).map_err(wrong)?,
+        due: Due::Value,
+    })
 }
 
 // Reads what follows a value: a comma, or the bracket that closes the container around it.
-fn separator(s: &[u8], kinds: &[u8; MAX_DEPTH], at: usize, depth: usize) -> Turn
-    requires { Ready s.now kinds.now depth at }
-    ensures { Turned (standing s.now 2 kinds.now depth at) s.now at kinds.now result.ground result.at result.depth result.due }
+fn separator(s: &[u8], nest: &mut Nest, at: usize) -> Result<Turn, Refusal>
+    requires { Ready s.now at }
+    ensures { Turned (standing s.now Due.After nest.old at) s.now at nest.new result }
 {
-    if depth == 0 {
-        return turn_to(false, at, depth, AFTER);
-    }
+    let Some(kind) = nest.innermost() else {
+        return Err(wrong(Dead { at }));
+    };
     let b = s[at];
-    let inner = depth - 1;
-    let kind = kinds[inner];
     if b == b',' {
-        return turn_to(true, at + 1, depth, item_due(kind));
+        return Ok(Turn {
+            at: at + 1,
+            due: item_due(kind),
+        });
     }
-    if b == closing(kind) {
-        return turn_to(true, at + 1, inner, AFTER);
+    if b == kind.closing() {
+        nest.pop();
+        return Ok(Turn {
+            at: at + 1,
+            due: Due::After,
+        });
     }
-    turn_to(false, at, depth, AFTER)
+    Err(wrong(Dead { at }))
 }
 
 // One turn, by what is due and then by the byte.
 pub fn take_turn(
     s: &[u8],
-    rows: &Rows,
-    table: &[u64; 256],
-    kinds: &mut [u8; MAX_DEPTH],
+    moves: &Moves,
+    nest: &mut Nest,
     at: usize,
-    depth: usize,
-    due: u8,
-) -> Turn
-    requires { RowTable rows.now × Ready s.now kinds.old depth at × (due ≤ 2) × Leads table.now }
-    ensures { Turned (standing s.now due kinds.old depth at) s.now at kinds.new result.ground result.at result.depth result.due }
+    due: Due,
+) -> Result<Turn, Refusal>
+    requires { Ready s.now at }
+    ensures { Turned (standing s.now due nest.old at) s.now at nest.new result }
 {
-    if due == AFTER {
-        return separator(s, kinds, at, depth);
+    match due {
+        Due::Value => value(s, moves, nest, at),
+        Due::Name => name(s, moves, at),
+        Due::After => separator(s, nest, at),
     }
-    if s[at] == b'"' {
-        return text(s, rows, table, at, depth, due);
-    }
-    if due == NAME {
-        return turn_to(false, at, depth, due);
-    }
-    value(s, kinds, at, depth)
 }

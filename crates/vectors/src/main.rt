@@ -2,14 +2,12 @@
 #![tactic(auto)]
 
 use call_cases::run_file;
-use standard_input::read_full;
+use standard_input::with_input;
 use std::io;
 
 // The most bytes of the file.
 const FILE_ROOM: usize = 81920;
 
 fn main(rt: HostRuntime) -> io::Result<()> {
-    let mut file = [0u8; FILE_ROOM];
-    let size = read_full(&mut rt.reader(), &mut file)?;
-    run_file(&rt, &file[..size])
+    with_input::<FILE_ROOM, _>(&rt, |file| run_file(&rt, file))
 }

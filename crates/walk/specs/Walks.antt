@@ -9,10 +9,10 @@ use Rattle.select.specs.Nodes.{root}
 use Rattle.select.specs.Visits.{node_visits}
 use Rattle.automaton.specs.State.{next, start}
 use Rattle.automaton.specs.Tally.{tallied, fresh}
-use Rattle.pairs.specs.Pairs.{tally}
+use Rattle.pairs.specs.Pairs.{tally_of}
+use Rattle.pairs.specs.declared.Counts.{Counts}
 
--- of a query's names, kinds and operands, a record s and a lent list: what the list holds afterwards, the pairs used, the most frames, and one
--- more than the first byte of the first node left over, or 0
-pub record Walks (names : List ℕ) (kinds : Kinds) (operands s list after : List ℕ) (used peak stop : ℕ) : Type 0 where
+-- of a query's names, kinds and operands, a record s and a lent list: what the list holds afterwards, and what has been counted
+pub record Walks (names : List ℕ) (kinds : Kinds) (operands s list after : List ℕ) (c : Counts) : Type 0 where
   pub counts : (x : List Step) → Holds names x kinds operands → (t : Tree) → text t ≡ s → nesting t.value ≤ max_depth
-      → tallied (fresh list) (node_visits (next x) (root t) (start x)) ≡ tally after used peak stop
+      → tallied (fresh list) (node_visits (next x) (root t) (start x)) ≡ tally_of after c

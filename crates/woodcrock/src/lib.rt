@@ -3,6 +3,7 @@
 #![tactic(auto)]
 
 mod jumping_lister;
+mod listing;
 mod plain_lister;
 
 pub use blocks::{Words, sort_block};

@@ -6,8 +6,8 @@ use Rattle.blocks.proofs.sort_short.Goals as goal
 pub returns : goal.returns
 returns c =
     let short = c.requires in
-    let pad = c.padded-pad.ensures in
-    let sorted = c.sort_full-full.ensures.sorted in
+    let pad = c.padded.ensures in
+    let sorted = c.sort_full-full.ensures in
     let mask = c.size_mask-mask.ensures in
     record {
       quotes_are = quotes_cut _ _ short pad _ _ _ sorted _ mask;

@@ -1,10 +1,9 @@
-use mathlib.Core.Bool.{Bool, true, false≢true}
+use Rattle.std.proofs.Common.{rules}
+use mathlib.Core.Bool.{Bool, false, false≢true}
 use mathlib.Core.List.{List}
-use mathlib.Core.Logic.{inl, inr}
 use mathlib.Core.Path.{◌≡◌, sym, subst, ◌∙◌}
-use Prim.Native.Nat.{ℕ, ◌-◌}
+use Prim.Native.Nat.{ℕ}
 use native.Mathlib.Omega.{arith}
-use borrow.Author.Tests.{not-true, not-false}
 use lib.ListN.{length}
 use Rattle.query.specs.Steps.{Step}
 use Rattle.select.proofs.PileBoundPassed.{Passed, passed_none, passed_step, passed_mixed, passed_all_plain, passed_all_deep}
@@ -15,59 +14,41 @@ passed-all : {count i : ℕ} {found b : Bool} (q : List Step) → i ≡ count �
 passed-all q e e' f p = rw (← f, ← e', ← e) p
 
 pub loop-i-init : goal.loop-i-init
-loop-i-init c = (omega arith, λ e. absurd (false≢true e), λ q h. passed_none q)
-
-pub has-next-requires : goal.has-next-requires
-has-next-requires c = omega arith
+loop-i-init c = record { some = λ e. absurd (false≢true e); passed = λ q h. passed_none q }
 
 pub returns-then-not-next : goal.returns-then-not-next
 returns-then-not-next c =
     let i = c.loop-i.i in
     λ q h.
-    let plain = not-true c.has-next.result c.if-not-next.true-raw in
+    let plain : c.has-next.result ≡ false = search rules in
     sym
     (passed_mixed q i (omega (arith, h.number))
-    (subst (Passed q i) c.if-found.true (c.loop-i.invariant.2 q h))
+    (subst (Passed q i) c.if-found.true (c.loop-i.invariant.passed q h))
     (sym (h.deep i) ∙ sym c.has-next.ensures ∙ plain))
-
-pub overflow_add-i : goal.overflow_add-i
-overflow_add-i c = omega arith
-
-pub loop-i-smaller : goal.loop-i-smaller
-loop-i-smaller c = omega arith
 
 pub loop-i-preserved : goal.loop-i-preserved
 loop-i-preserved c =
     let i = c.loop-i.i in
     let found = c.loop-i.found in
-    let deep = c.has-next.result in (
-      omega arith,
-      λ e. omega arith,
-      λ q h.
+    let deep = c.has-next.result in
+    record {
+      some = λ e. omega arith;
+      passed = λ q h.
           passed_step q i (omega (arith, h.number)) found deep
-          (c.loop-i.invariant.2 q h)
+          (c.loop-i.invariant.passed q h)
           (sym (h.deep i) ∙ sym c.has-next.ensures)
           (λ e. elim c.else-found.branch [
-            | goal.else-found-via-then-found+else-not-next x ↦ not-false deep x.if-not-next.false-raw
+            | goal.else-found-via-then-found+else-not-next x ↦ search rules
             | goal.else-found-via-else-found x ↦ absurd (false≢true (sym x.if-found.false ∙ e))
-          ]),
-    )
-
-pub overflow_sub-result : goal.overflow_sub-result
-overflow_sub-result c = omega (arith, c.loop-i.invariant.1 c.if-found-2.true)
-
-pub overflow_cast-result : goal.overflow_cast-result
-overflow_cast-result c = omega arith
+          ]);
+    }
 
 pub returns-then-found-2 : goal.returns-then-found-2
 returns-then-found-2 c =
     let all : c.loop-i.i ≡ c.args.count = omega arith in
-    λ q h. rw h.number (sym (passed_all_deep q (passed-all q all h.number c.if-found-2.true (c.loop-i.invariant.2 q h))))
-
-pub overflow_cast-result-2 : goal.overflow_cast-result-2
-overflow_cast-result-2 c = omega arith
+    λ q h. rw h.number (sym (passed_all_deep q (passed-all q all h.number c.if-found-2.true (c.loop-i.invariant.passed q h))))
 
 pub returns : goal.returns
 returns c =
     let all : c.loop-i.i ≡ c.args.count = omega arith in
-    λ q h. rw h.number (sym (passed_all_plain q (passed-all q all h.number c.if-found-2.false (c.loop-i.invariant.2 q h))))
+    λ q h. rw h.number (sym (passed_all_plain q (passed-all q all h.number c.if-found-2.false (c.loop-i.invariant.passed q h))))

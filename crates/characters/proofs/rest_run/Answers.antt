@@ -4,5 +4,5 @@ use Rattle.swar.specs.KindLaws.{plain_fails, quote}
 use Rattle.swar.specs.Passing.{at_start, ends_at}
 use Rattle.characters.proofs.rest_run.Goals as goal
 
-pub returns-then-s-at-eq-QUOTE : goal.returns-then-s-at-eq-QUOTE
-returns-then-s-at-eq-QUOTE c = ends_at (at_start c.requires) (plain_fails (quote c.if-s-at-eq-QUOTE.true))
+pub returns-then-s-at-eq34 : goal.returns-then-s-at-eq34
+returns-then-s-at-eq34 c = ends_at (at_start c.requires) (plain_fails (quote c.if-s-at-eq34.true))

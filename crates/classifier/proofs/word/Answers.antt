@@ -5,5 +5,5 @@ use Rattle.classifier.proofs.word.Goals as goal
 
 pub returns : goal.returns
 returns c = record {
-  flags = λ g packed i h. c.transpose.ensures i h ∙ gathered _ _ _ _ c.load8-even.ensures c.load8-odd.ensures g packed i h;
+  flags = λ g packed i h. c.transpose.ensures i h ∙ gathered _ _ _ c.load8-even.ensures c.load8-odd.ensures g packed i h;
 }

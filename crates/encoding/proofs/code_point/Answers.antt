@@ -2,12 +2,9 @@
 -- Assumes nothing.
 use mathlib.Core.Path.{refl}
 use Rattle.encoding.specs.CodePoint.{decoding}
-use Rattle.encoding.proofs.Scans.{at_end, at_wrong}
+use Rattle.encoding.proofs.Scans.{at_end}
 use Rattle.encoding.proofs.code_point.Goals as goal
 
 pub returns-then-at-s : goal.returns-then-at-s
 unfolding decoding
 returns-then-at-s c = at_end c.if-at-s.true refl
-
-pub returns-then-row-eq-ROW_COUNT : goal.returns-then-row-eq-ROW_COUNT
-returns-then-row-eq-ROW_COUNT c = at_wrong c.if-at-s.false (c.row_of-row.ensures.none c.if-row-eq-ROW_COUNT.true)

@@ -1,32 +1,20 @@
 use native.Mathlib.Omega.{arith}
-use Rattle.encoding.specs.RowTable.{from_start, from_over, row_found, row_under, row_none, low_at_lem, high_at}
+use Rattle.std.specs.Prelude.{◌≡◌}
+use Rattle.encoding.proofs.RowLaws.{from_start, from_end, has_byte_at, under_it, over_it}
+use Rattle.encoding.proofs.TablesRight.{rows_right}
 use Rattle.encoding.proofs.row_of.Goals as goal
 
-pub loop-r-init : goal.loop-r-init
-loop-r-init c = (omega arith, omega arith, from_start c.args.b)
+pub loop-row-init : goal.loop-row-init
+loop-row-init c = from_start c.args.b
 
-pub returns-then-rows-r : goal.returns-then-rows-r
-returns-then-rows-r c =
-    let row = c.loop-r.r in
-    let table = c.requires in
-    let below = c.loop-r-test.true in
-    row_found c.args.b row below c.loop-r.invariant.2
-    (omega (arith, low_at_lem table row below)) (omega (arith, high_at table row below))
+pub returns-then-row-b : goal.returns-then-row-b
+returns-then-row-b c = has_byte_at rows_right c.args.b c.loop-row.row-index _ c.loop-row-test.true c.loop-row.invariant c.if-row-b.true c.if-b-row.true
 
-pub returns-then-b-rows : goal.returns-then-b-rows
-returns-then-b-rows c =
-    let row = c.loop-r.r in
-    let below = c.loop-r-test.true in
-    row_under c.args.b row below c.loop-r.invariant.2 (omega (arith, low_at_lem c.requires row below))
+pub returns-then-b-row : goal.returns-then-b-row
+returns-then-b-row c = under_it rows_right c.args.b c.loop-row.row-index _ c.loop-row-test.true c.loop-row.invariant c.if-row-b.false
 
-pub loop-r-preserved : goal.loop-r-preserved
-loop-r-preserved c =
-    let row = c.loop-r.r in
-    let below = c.loop-r-test.true in (
-      omega arith,
-      omega arith,
-      from_over c.args.b row below c.loop-r.invariant.2 (omega (arith, high_at c.requires row below)),
-    )
+pub loop-row-preserved : goal.loop-row-preserved
+loop-row-preserved c = over_it rows_right c.args.b c.loop-row.row-index _ c.loop-row-test.true c.loop-row.invariant c.if-b-row.false
 
 pub returns : goal.returns
-returns c = row_none c.args.b c.loop-r.r c.loop-r-test.false (omega arith) c.loop-r.invariant.2
+returns c = let z : c.loop-row.row-index ≡ 8 = omega arith in from_end c.args.b (rw z at c.loop-row.invariant)

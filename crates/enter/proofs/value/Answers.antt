@@ -1,5 +1,5 @@
 -- The node's pair is begun first; then a scalar is passed, and a container is left to its own function. Assumes nothing.
-use mathlib.Core.Path.{sym, ◌∙◌}
+use mathlib.Core.Path.{refl, sym, ◌∙◌}
 use native.Mathlib.Omega.{arith}
 use Rattle.pile.specs.DueLaws.{onward_lost, onward_passed, lost_item, passed_item, due_passed}
 use Rattle.enter.proofs.Values.{idle_begun, value_inside, scalar_due, container_due}
@@ -8,11 +8,11 @@ use Rattle.enter.proofs.value.Goals as goal
 pub returns-then-at-record : goal.returns-then-at-record
 returns-then-at-record c = record {
   passes_value = record {
-    onward = onward_lost c.lost.ensures (omega arith) c.requires.record_len_bound.1 c.requires.depth_le_max_depth.1;
-    passed = λ e. lost_item c.lost.ensures;
+    onward = onward_lost c.lose.ensures (omega arith) c.requires.at_in_bounds c.requires.depth_le_max_depth.1;
+    passed = λ e. lost_item c.lose.ensures;
     keeps = λ x whole y. absurd (omega (arith, value_inside y, c.if-at-record.true));
   };
-  kept_2 = c.requires.kept;
+  same_record = refl;
 }
 
 pub returns-then-class-ne-OPENING : goal.returns-then-class-ne-OPENING
@@ -24,27 +24,25 @@ returns-then-class-ne-OPENING c = record {
     passed = λ e. passed_item c.pass.ensures;
     keeps = λ x whole y.
         due_passed c.pass.ensures
-        (scalar_due y c.begin-begun.ensures (λ e. c.if-class-ne-OPENING.true (c.class.ensures ∙ e)) c.scalar_end-end.ensures);
+        (scalar_due y c.begin-wait.ensures (λ e. c.if-class-ne-OPENING.true (c.class.ensures ∙ e)) c.scalar_end-end.ensures);
   };
-  kept_2 = c.requires.kept;
+  same_record = refl;
 }
 
 pub container-requires : goal.container-requires
 container-requires c = record {
-  class_table = c.requires.class_table;
-  record_len_bound = (c.requires.record_len_bound.0, c.if-at-record.false);
+  at_in_bounds = c.if-at-record.false;
   depth_le_max_depth = c.requires.depth_le_max_depth;
-  kept = c.requires.kept;
 }
 
 pub returns : goal.returns
 returns c = record {
   passes_value = record {
     onward = c.container.ensures.passes_container.onward;
-    passed = λ e. c.container.ensures.passes_container.passed (idle_begun c.begin-begun.ensures e);
+    passed = λ e. c.container.ensures.passes_container.passed (idle_begun c.begin-wait.ensures e);
     keeps = λ x whole y.
         c.container.ensures.passes_container.keeps x whole
-        (container_due y c.begin-begun.ensures (sym c.class.ensures ∙ c.if-class-ne-OPENING.false));
+        (container_due y c.begin-wait.ensures (sym c.class.ensures ∙ c.if-class-ne-OPENING.false));
   };
-  kept_2 = c.container.ensures.kept_2;
+  same_record = c.container.ensures.same_record;
 }

@@ -1,39 +1,25 @@
 -- Each way out is one law of Escapes. Assumes nothing.
-use mathlib.Core.Path.{◌≡◌, sym, ap, ◌∙◌}
-use mathlib.Core.List.{List}
-use Prim.Native.Nat.{ℕ, ◌+◌}
+use mathlib.Core.Path.{sym, ap, ◌∙◌}
 use native.Mathlib.Omega.{arith}
-use borrow.Author.Tests.{not-true, not-false}
-use lib.ListN.{take, drop}
-use lib.Seq.{slice, drop-drop}
-use Rattle.encoding.specs.Unescape.{short_point_of, unit_at, low_at_of}
-use Rattle.escapes.proofs.Escapes.{escape_short, escape_no_high, escape_no_low, escape_pair}
+use Rattle.encoding.specs.Unescape.{short_point_of}
+use Rattle.escapes.proofs.Escapes.{escape_none, escape_short, escape_alone, escape_pair}
 use Rattle.escapes.proofs.escape_at.Goals as goal
 
--- what stands six bytes later
-later : (s : List ℕ) (at end : ℕ) → slice (at + 6) end s ≡ drop 6 (slice at end s)
-later s at end = sym (drop-drop 6 at (take end s))
+pub returns-in_default : goal.returns-in_default
+returns-in_default c = escape_none _ c.in_default.ensures.lookup.3
 
-pub returns-then-b-ne-SMALL_U : goal.returns-then-b-ne-SMALL_U
-returns-then-b-ne-SMALL_U c =
-    let byte = c.byte_at-b.ensures in
-    escape_short _ (λ e. c.if-b-ne-SMALL_U.true (byte ∙ e)) (c.short_point.ensures ∙ ap short_point_of byte) (omega arith)
+pub returns-then-letter-ne-SMALL_U : goal.returns-then-letter-ne-SMALL_U
+returns-then-letter-ne-SMALL_U c =
+    let byte = c.in-Some.ensures.lookup.3.1 0 in
+    escape_short _ (λ e. c.if-letter-ne-SMALL_U.true (byte ∙ e)) (c.short_point.ensures ∙ ap short_point_of byte) (omega arith)
 
-pub returns-then-unit-ne-HIGH : goal.returns-then-unit-ne-HIGH
-returns-then-unit-ne-HIGH c = escape_no_high _ (sym c.byte_at-b.ensures ∙ c.if-b-ne-SMALL_U.false) c.unit_at-unit.ensures c.if-unit-ne-HIGH.true
+pub returns-in-Some-low_behind : goal.returns-in-Some-low_behind
+returns-in-Some-low_behind c =
+    let byte = c.in-Some.ensures.lookup.3.1 0 in
+    let pair = c.in-Some-low_behind.ensures in
+    escape_pair _ (sym byte ∙ c.if-letter-ne-SMALL_U.false) c.unit_at-unit.ensures pair.0 pair.1 (λ h l. omega arith)
 
-pub returns-then-not-low_at : goal.returns-then-not-low_at
-returns-then-not-low_at c =
-    let a = c.args in
-    let none = sym c.low_at.ensures ∙ not-true c.low_at.result c.if-not-low_at.true-raw in
-    escape_no_low _ (sym c.byte_at-b.ensures ∙ c.if-b-ne-SMALL_U.false)
-    c.unit_at-unit.ensures (sym (ap low_at_of (later a.s.now a.at a.end)) ∙ none)
-
-pub returns : goal.returns
-returns c =
-    let a = c.args in
-    let after = later a.s.now a.at a.end in
-    let some = sym c.low_at.ensures ∙ not-false c.low_at.result c.if-not-low_at.false-raw in
-    escape_pair _ (sym c.byte_at-b.ensures ∙ c.if-b-ne-SMALL_U.false)
-    c.unit_at-unit.ensures c.if-unit-ne-HIGH.false (sym (ap low_at_of after) ∙ some)
-    (c.unit_at-low.ensures ∙ ap unit_at after) (λ l. omega arith)
+pub returns-in-None : goal.returns-in-None
+returns-in-None c =
+    let byte = c.in-Some.ensures.lookup.3.1 0 in
+    escape_alone _ (sym byte ∙ c.if-letter-ne-SMALL_U.false) c.unit_at-unit.ensures c.in-None.ensures

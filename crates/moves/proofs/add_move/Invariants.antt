@@ -1,11 +1,6 @@
--- `moves::add_move` meets its contract. The loop's invariant: the move has been added to the bytes before `b`. The measure is how
--- many are left. Assumes nothing.
-use Prim.Native.Nat.{◌-◌}
+-- `moves::add_move` meets its contract. The loop's invariant: the move has been added to the bytes before `b`. Assumes nothing.
 use Rattle.moves.proofs.MoveLaws.{Adding}
 use Rattle.moves.proofs.add_move.Given as goal
 
 abbrev pub invariant-loop-b : goal.invariant-loop-b
-invariant-loop-b l = Adding l.low l.end l.word l.b l.initial.table l.table
-
-abbrev pub decreases-loop-b : goal.decreases-loop-b
-decreases-loop-b l = l.end - l.b
+invariant-loop-b l = Adding l.low l.high l.word l.b l.initial.table l.table

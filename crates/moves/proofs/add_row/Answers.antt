@@ -3,6 +3,4 @@ use Rattle.moves.proofs.MoveLaws.{row_added}
 use Rattle.moves.proofs.add_row.Goals as goal
 
 pub returns : goal.returns
-returns c =
-    row_added c.row_at-row.ensures c.add_move.ensures
-    c.after_second.ensures c.add_move-2.ensures
+returns c = row_added c.add_move.ensures c.after_second.ensures c.add_move-2.ensures

@@ -2,8 +2,8 @@
 use Rattle.pairs.proofs.Laws.{ends_none, ends_pair}
 use Rattle.pairs.proofs.finish.Goals as goal
 
-pub returns-then-wait-eq0 : goal.returns-then-wait-eq0
-returns-then-wait-eq0 c = ends_none _ _ _ c.if-wait-eq0.true
+pub returns-in-Some : goal.returns-in-Some
+returns-in-Some c = rw c.in-Some.is (ends_pair _ _ _ c.write.ensures)
 
-pub returns : goal.returns
-returns c = ends_pair _ _ _ c.if-wait-eq0.false c.write.ensures
+pub returns-in_default : goal.returns-in_default
+returns-in_default c = rw c.in_default.is (ends_none _ _)

@@ -1,32 +1,25 @@
 use native.Mathlib.Omega.{arith}
-use Rattle.path.proofs.Turns.{measured_none, next_within, name_quoted, measured_half, measured_more, measured_all}
+use Rattle.std.proofs.lemmas.Result.{err_from_is_err_and}
+use Rattle.path.specs.SlotsLaws.{within_at}
+use Rattle.path.proofs.Turns.{measured_none, measured_half, measured_more, measured_all}
 use Rattle.path.proofs.measure.Goals as goal
 
 pub loop-i-init : goal.loop-i-init
-loop-i-init c = (c.requires.0.below, omega arith, measured_none _ _)
+loop-i-init c = measured_none _ _
 
-pub label_size-label-requires : goal.label_size-label-requires
-label_size-label-requires c = (next_within _ _ c.requires.0 c.loop-i.i c.loop-i-test.true c.loop-i.invariant.1, c.requires.1)
+pub label_size-requires : goal.label_size-requires
+label_size-requires c = (within_at _ _ _ (omega arith) c.requires.0, c.requires.2)
 
-pub quote_before-requires : goal.quote_before-requires
-quote_before-requires c =
-    name_quoted _ _ c.requires.0 c.loop-i.i c.loop-i-test.true c.loop-i.invariant.1
-    c.label_size-label.ensures c.if-label.true
+pub returns-in_err-size : goal.returns-in_err-size
+returns-in_err-size c =
+    let p = err_from_is_err_and c.from_residual.result c.from_residual.ensures.1 in
+    rw (p.1, p.2) (measured_half _ _ c.loop-i-test.true c.loop-i.invariant.inside c.in_err-size.ensures c.loop-i.invariant)
 
-pub returns-then-label : goal.returns-then-label
-returns-then-label c =
-    rw c.quote_before.ensures
-    (measured_half _ _ c.requires.0 c.loop-i.i c.loop-i-test.true c.loop-i.invariant.1
-    c.label_size-label.ensures c.loop-i.invariant.2 c.if-label.true)
+pub overflow_add-size : goal.overflow_add-size
+overflow_add-size c = record { fits = omega (arith, c.loop-i.invariant.small, c.in_ok-size.ensures.small, c.requires.1) }
 
 pub loop-i-preserved : goal.loop-i-preserved
-loop-i-preserved c =
-    let inside = c.loop-i-test.true in (
-      omega arith,
-      omega arith,
-      measured_more _ _ c.requires.0 c.loop-i.i inside c.loop-i.invariant.1
-          c.label_size-label.ensures c.loop-i.invariant.2 c.if-label.false,
-    )
+loop-i-preserved c = measured_more _ _ c.loop-i-test.true c.loop-i.invariant.inside c.in_ok-size.ensures c.loop-i.invariant
 
 pub returns : goal.returns
-returns c = measured_all _ _ _ c.loop-i.invariant.2 (omega arith)
+returns c = measured_all _ _ c.loop-i-test.false c.loop-i.invariant

@@ -1,20 +1,9 @@
 -- Seven code points have a letter, and any other has none. Assumes nothing.
-use mathlib.Core.Path.{◌≡◌}
-use Prim.Native.Nat.{ℕ}
+use native.Mathlib.Omega.{arith}
 use Rattle.paths.specs.Normalized.{backspace, form, line, carriage, tabulator, apostrophe, backslash}
 use Rattle.paths.specs.RenderedLaws.{NoShort}
 use Rattle.path_names.specs.Pieces.{named, nameless}
 use Rattle.path_names.proofs.escape_letter.Goals as goal
-
-none_of : {n : ℕ} → (n ≡ 0x08 → ⊥) → (n ≡ 0x09 → ⊥) → (n ≡ 0x0A → ⊥) → (n ≡ 0x0C → ⊥) → (n ≡ 0x0D → ⊥) → (n ≡ 0x27 → ⊥) → (n ≡ 0x5C → ⊥)
-    → NoShort n
-none_of a b c d e f g backspace = a
-none_of a b c d e f g tabulator = b
-none_of a b c d e f g line = c
-none_of a b c d e f g form = d
-none_of a b c d e f g carriage = e
-none_of a b c d e f g apostrophe = f
-none_of a b c d e f g backslash = g
 
 pub returns-in-8 : goal.returns-in-8
 returns-in-8 c = named backspace c.in-8.is
@@ -38,6 +27,13 @@ pub returns-in-92 : goal.returns-in-92
 returns-in-92 c = named backslash c.in-92.is
 
 pub returns-in_default : goal.returns-in_default
-returns-in_default c =
-    let n = c.in_default.in_default-own.rest in
-    nameless (none_of n.0.0.0.0.0.0.1 n.0.0.0.0.0.1 n.0.0.0.0.1 n.0.0.0.1 n.0.0.1 n.0.1 n.1)
+returns-in_default c = nameless none
+  where
+    none : NoShort c.args.point
+    none backspace e = omega arith
+    none tabulator e = omega arith
+    none line e = omega arith
+    none form e = omega arith
+    none carriage e = omega arith
+    none apostrophe e = omega arith
+    none backslash e = omega arith

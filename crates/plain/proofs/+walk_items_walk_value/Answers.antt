@@ -12,58 +12,58 @@ pub walk_items-returns-then-class-eq-CLOSING : goal.walk_items-returns-then-clas
 walk_items-returns-then-class-eq-CLOSING t c =
     items_none c.skip_blanks-first.ensures c.if-first-record.false (sym c.class.ensures ∙ c.if-class-eq-CLOSING.true)
 
-pub walk_items-loop-kinds-init : goal.walk_items-loop-kinds-init
-walk_items-loop-kinds-init t c =
+pub walk_items-loop-node-init : goal.walk_items-loop-node-init
+walk_items-loop-node-init t c =
     items_begin c.skip_blanks-first.ensures (λ e. c.if-class-eq-CLOSING.false (c.class.ensures ∙ e))
 
-pub walk_items-walk_value-walked-requires : goal.walk_items-walk_value-walked-requires
-walk_items-walk_value-walked-requires t c =
-    let bounds = c.requires.record_len_bound in
+pub walk_items-walk_value-passed-requires : goal.walk_items-walk_value-passed-requires
+walk_items-walk_value-passed-requires t c =
+    let bounds = c.requires in
     let child = c.enter_child-child.ensures in
-    (omega (arith, c.decreases), (c.requires.class_table, (c.requires.fits, (bounds.0, child.within, omega (arith, bounds.2, child.one_more)))))
+    (omega (arith, c.decreases), (bounds.0, child.within, omega (arith, bounds.2, child.one_more)))
 
 pub walk_items-returns-then-end-record : goal.walk_items-returns-then-end-record
 walk_items-returns-then-end-record t c =
-    let item = item_walked c.loop-kinds.invariant c.enter_child-child.ensures c.walk_value-walked.ensures in
+    let item = item_walked c.loop-node.invariant c.enter_child-child.ensures c.walk_value-passed.ensures in
     more_cut item c.skip_blanks-end.ensures c.if-end-record.true
 
 pub walk_items-returns-then-byte-ne-COMMA : goal.walk_items-returns-then-byte-ne-COMMA
 walk_items-returns-then-byte-ne-COMMA t c =
-    let item = item_walked c.loop-kinds.invariant c.enter_child-child.ensures c.walk_value-walked.ensures in
+    let item = item_walked c.loop-node.invariant c.enter_child-child.ensures c.walk_value-passed.ensures in
     more_none item c.skip_blanks-end.ensures c.if-end-record.false c.if-byte-ne-COMMA.true
 
 pub walk_items-overflow_add-index : goal.walk_items-overflow_add-index
 walk_items-overflow_add-index t c =
-    omega (arith, c.requires.record_len_bound.0, c.loop-kinds.invariant.behind, c.loop-kinds.invariant.within)
+    omega (arith, c.requires.0, c.loop-node.invariant.behind, c.loop-node.invariant.within)
 
-pub walk_items-loop-kinds-preserved : goal.walk_items-loop-kinds-preserved
-walk_items-loop-kinds-preserved t c =
-    let item = item_walked c.loop-kinds.invariant c.enter_child-child.ensures c.walk_value-walked.ensures in
+pub walk_items-loop-node-preserved : goal.walk_items-loop-node-preserved
+walk_items-loop-node-preserved t c =
+    let item = item_walked c.loop-node.invariant c.enter_child-child.ensures c.walk_value-passed.ensures in
     more_again item c.skip_blanks-end.ensures c.if-end-record.false c.if-byte-ne-COMMA.false
 
 pub walk_value-returns-then-at-record : goal.walk_value-returns-then-at-record
-walk_value-returns-then-at-record t c = value_past c.requires.record_len_bound.1 c.if-at-record.true
+walk_value-returns-then-at-record t c = value_past c.requires.1 c.if-at-record.true
 
 pub walk_value-returns-then-class-ne-OPENING : goal.walk_value-returns-then-class-ne-OPENING
 walk_value-returns-then-class-ne-OPENING t c =
-    value_scalar c.begin-begun.ensures (λ e. c.if-class-ne-OPENING.true (c.class.ensures ∙ e)) c.scalar_end-end.ensures c.finish.ensures
+    value_scalar c.begin-wait.ensures (λ e. c.if-class-ne-OPENING.true (c.class.ensures ∙ e)) c.scalar_end-end.ensures c.finish.ensures
 
 pub walk_value-returns-then-left-eq0 : goal.walk_value-returns-then-left-eq0
 walk_value-returns-then-left-eq0 t c =
-    value_too_deep c.requires.record_len_bound.1 (sym c.class.ensures ∙ c.if-class-ne-OPENING.false) c.if-left-eq0.true
+    value_too_deep c.requires.1 (sym c.class.ensures ∙ c.if-class-ne-OPENING.false) c.if-left-eq0.true
 
-pub walk_value-walk_items-walked-requires : goal.walk_value-walk_items-walked-requires
-walk_value-walk_items-walked-requires t c =
-    let bounds = c.requires.record_len_bound in
+pub walk_value-walk_items-end-requires : goal.walk_value-walk_items-end-requires
+walk_value-walk_items-end-requires t c =
+    let bounds = c.requires in
     let some_left = c.if-left-eq0.false in (
       omega (arith, c.decreases, some_left),
-      (c.requires.class_table, (c.requires.fits, (bounds.0, omega (arith, c.if-at-record.false), omega (arith, bounds.2, some_left)))),
+      (bounds.0, omega (arith, c.if-at-record.false), omega (arith, bounds.2, some_left)),
     )
 
 pub walk_value-finish-requires-2 : goal.walk_value-finish-requires-2
-walk_value-finish-requires-2 t c = omega (arith, c.requires.record_len_bound.0, c.walk_items-walked.ensures.within)
+walk_value-finish-requires-2 t c = omega (arith, c.requires.0, c.walk_items-end.ensures.within)
 
 pub walk_value-returns : goal.walk_value-returns
 walk_value-returns t c =
-    value_container c.begin-begun.ensures (sym c.class.ensures ∙ c.if-class-ne-OPENING.false) c.raise.ensures
-    c.walk_items-walked.ensures c.finish-2.ensures
+    value_container c.begin-wait.ensures _ (sym c.class.ensures ∙ c.if-class-ne-OPENING.false) c.raise.ensures
+    c.walk_items-end.ensures c.finish-2.ensures

@@ -3,7 +3,8 @@
 -- is left of the record. Assumes nothing.
 use Prim.Native.Nat.{◌+◌, ◌*◌, ◌-◌}
 use lib.ListN.{length}
-use Rattle.plain.specs.Plain.{state_of, tally_of}
+use Rattle.pairs.specs.Pairs.{tally_of}
+use Rattle.plain.specs.Plain.{state_of}
 use Rattle.plain.proofs.Laws.{AtItem}
 use Rattle.plain.proofs.+walk_items_walk_value.Given as goal
 
@@ -14,10 +15,10 @@ decreases-walk_items l = l.left * 2 + 1
 abbrev pub decreases-walk_value : goal.decreases-walk_value
 decreases-walk_value l = l.left * 2
 
-abbrev pub invariant-walk_items-loop-kinds : goal.invariant-walk_items-loop-kinds
-invariant-walk_items-loop-kinds l =
-    AtItem l.names l.kinds l.operands l.record l.at l.left l.object (state_of l.node)
-    (tally_of l.initial.list l.initial.sum) l.i l.index (tally_of l.list l.sum)
+abbrev pub invariant-walk_items-loop-node : goal.invariant-walk_items-loop-node
+invariant-walk_items-loop-node l =
+    AtItem l.query.names.now l.query.kinds l.query.operands l.record l.at l.left l.object (state_of l.node)
+    (tally_of l.initial.list l.initial.counts) l.i l.index (tally_of l.list l.counts)
 
-abbrev pub decreases-walk_items-loop-kinds : goal.decreases-walk_items-loop-kinds
-decreases-walk_items-loop-kinds l = length l.record - l.i
+abbrev pub decreases-walk_items-loop-node : goal.decreases-walk_items-loop-node
+decreases-walk_items-loop-node l = length l.record - l.i

@@ -1,23 +1,28 @@
 -- `query_escapes::high_digits` meets its contract: two digits and a low half, or the first of them that is dead. Assumes nothing.
-use Rattle.query_escapes.proofs.Digits.{stop_high, on_high_digits, leads_next}
-use Rattle.query_escapes.proofs.Parts.{refused, passed, as_part}
+use Rattle.std.proofs.Common.{refl, ◌≡◌, ◌+◌, arith}
+use Rattle.query_escapes.specs.Scans.{Part}
+use Rattle.query_escapes.specs.ScansLaws.{handed, read_as}
+use Rattle.query_escapes.proofs.Digits.{on_high_digits}
+use Rattle.query_escapes.proofs.Parts.{no_digit, passed, as_part}
 use Rattle.query_escapes.proofs.high_digits.Goals as goal
 
-pub returns-then-hex_at-eq-NO_DIGIT : goal.returns-then-hex_at-eq-NO_DIGIT
-returns-then-hex_at-eq-NO_DIGIT c = refused c.requires (stop_high c.hex_at.ensures 1 c.if-hex_at-eq-NO_DIGIT.true)
+pub returns-in_err-hex_at : goal.returns-in_err-hex_at
+returns-in_err-hex_at c =
+    rw (handed _ c.from_residual.ensures.1 c.in_err-hex_at.ensures.1) (no_digit (λ x. refl) c.requires c.in_err-hex_at.ensures.0)
 
-pub returns-then-hex_at-eq-NO_DIGIT-2 : goal.returns-then-hex_at-eq-NO_DIGIT-2
-returns-then-hex_at-eq-NO_DIGIT-2 c =
-    passed (on_high_digits 1 c.hex_at.ensures c.if-hex_at-eq-NO_DIGIT.false)
-    (λ h. refused h (stop_high c.hex_at-2.ensures 0 c.if-hex_at-eq-NO_DIGIT-2.true))
-
-pub low_half-requires : goal.low_half-requires
-low_half-requires c = leads_next c.args.query.now _ (on_high_digits 0 c.hex_at-2.ensures c.if-hex_at-eq-NO_DIGIT-2.false)
+pub returns-in_err-hex_at-2 : goal.returns-in_err-hex_at-2
+returns-in_err-hex_at-2 c =
+    rw (handed _ c.from_residual-in_err-hex_at-2.ensures.1 c.in_err-hex_at-2.ensures.1)
+    (passed c.in_ok-hex_at.ensures.0 (on_high_digits 1 c.in_ok-hex_at.ensures.1) (λ h. no_digit (λ x. refl) h c.in_err-hex_at-2.ensures.0))
 
 pub returns : goal.returns
 returns c =
-    let z = on_high_digits 1 c.hex_at.ensures c.if-hex_at-eq-NO_DIGIT.false in
-    let w = on_high_digits 0 c.hex_at-2.ensures c.if-hex_at-eq-NO_DIGIT-2.false in
+    let z = on_high_digits 1 c.in_ok-hex_at.ensures.1 in
+    let w = on_high_digits 0 c.in_ok-hex_at-2.ensures.1 in
     let p = z.is in
     let q = w.is in
-    passed z (λ h. passed w (λ k. as_part (λ rest s (l, e). (z.tree, w.tree, l, cc)) c.low_half.ensures))
+    let e : c.args.at + 2 ≡ c.args.at + 1 + 1 = omega arith in
+    read_as (Part _ _ _ _) (Part _ _ _ _) _
+    (λ ok n r. passed c.in_ok-hex_at.ensures.0 z
+    (λ h. passed c.in_ok-hex_at-2.ensures.0 w (λ k. as_part (λ rest s (l, e). (z.tree, w.tree, l, cc)) r)))
+    (rw (e) at c.low_half.ensures)

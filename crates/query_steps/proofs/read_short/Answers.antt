@@ -1,20 +1,13 @@
 -- `query_steps::read_short` meets its contract: `*` ends the step at once, and else the shorthand name is the step's. Assumes nothing.
-use borrow.Author.Tests.{not-true, not-false}
-use Rattle.query_steps.proofs.Parts.{short_end, short_every, short_refused, short_taken}
+use Rattle.std.proofs.Common.{rules}
+use Rattle.query_steps.proofs.Parts.{short_end, short_every, short_taken}
 use Rattle.query_steps.proofs.read_short.Goals as goal
 
-pub returns-then-at-query : goal.returns-then-at-query
-returns-then-at-query c = short_end c.if-at-query.true
+pub returns-in-Some-eq42 : goal.returns-in-Some-eq42
+returns-in-Some-eq42 c d g = short_every _ d (search rules) (search rules)
 
-pub returns-then-query-at-eq-STAR : goal.returns-then-query-at-eq-STAR
-returns-then-query-at-eq-STAR c = short_every c.if-at-query.false c.if-query-at-eq-STAR.true
+pub returns-in_ok-end-in-Some : goal.returns-in_ok-end-in-Some
+returns-in_ok-end-in-Some c d g = short_taken _ d (search rules) g c.in_ok-end-in-Some.ensures
 
-pub returns-then-not-name : goal.returns-then-not-name
-returns-then-not-name c =
-    short_refused c.if-query-at-eq-STAR.false c.requires.2
-    c.shorthand-name.ensures (not-true _ c.if-not-name.true)
-
-pub returns : goal.returns
-returns c =
-    short_taken c.if-query-at-eq-STAR.false c.requires.2
-    c.shorthand-name.ensures (not-false _ c.if-not-name.false)
+pub returns-in-None : goal.returns-in-None
+returns-in-None c d g = short_end _ d (search rules)

@@ -18,6 +18,6 @@ pub returns : goal.returns
 returns c =
     rw (
     answer_text c.list_jumping-answer.ensures c.args.input.now c.if-input-gt-MAX_INPUT.false
-    c.query_in-query.ensures c.record_in-record.ensures
+    c.parts.ensures.query_part c.parts.ensures.record_part
     )
     c.write_answer.ensures

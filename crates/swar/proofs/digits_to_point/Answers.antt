@@ -1,8 +1,8 @@
 -- `swar::digits_to_point` meets its contract: it stays where it is, or passes those of eight bytes that stand before the first that is no digit.
 -- Assumes nothing.
 use native.Mathlib.Omega.{arith}
-use Rattle.lanes.specs.Stops.{first_within, stops_before}
-use Rattle.swar.specs.Passing.{at_start, passed_more}
+use Rattle.lanes.specs.Stops.{first_within}
+use Rattle.swar.specs.Passing.{at_start, passed_first}
 use Rattle.swar.proofs.digits_to_point.Goals as goal
 
 pub returns-then-s-at-lt8 : goal.returns-then-s-at-lt8
@@ -15,8 +15,4 @@ pub overflow_add-result : goal.overflow_add-result
 overflow_add-result c = omega (arith, first_within c.zero_bytes.ensures)
 
 pub returns : goal.returns
-returns c =
-    passed_more c.zero_bytes.result (at_start c.requires)
-    (omega (arith, first_within c.zero_bytes.ensures, c.if-s-at-lt8.false, c.requires))
-    (stops_before (λ j. omega (arith, c.type_inv.s j)) c.load8-x.ensures c.digit_stops.ensures
-    c.zero_bytes.ensures)
+returns c = passed_first c.type_inv.s c.load8-x.ensures c.stops.ensures (at_start c.requires) (omega arith) c.zero_bytes.ensures

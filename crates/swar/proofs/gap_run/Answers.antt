@@ -21,4 +21,4 @@ returns c =
     run_on
     (one_more (one_more (at_start c.requires) c.if-at-s.false (gap_holds c.if-s-at-gt-SPACE.false)) c.if-next-s.false
     (gap_holds c.if-s-next-gt-SPACE.false))
-    c.run_bytes.ensures
+    c.run.ensures

@@ -1,21 +1,21 @@
-use mathlib.Core.Path.{sym, ◌∙◌}
-use Prim.Native.Nat.{◌-◌}
-use borrow.Author.Tests.{not-true, not-false}
-use Rattle.swar.specs.Passing.{at_start, one_more, ends_at, ends_all}
+-- `swar::run_tail` meets its contract: of what is left, as many bytes are counted as are of the kind one after another. Assumes nothing.
+use Rattle.std.proofs.Common.{◌≡◌, ◌-◌, length, drop, ◌∙◌, arith, rules, length-drop}
+use borrow.Author.Tests.{tests}
+use Rattle.std.specs.List.{prefix_len}
+use Rattle.std.proofs.lemmas.Iterator.{YieldsList-from_slice}
+use Rattle.std.proofs.lemmas.Iterator.Search.{YieldsList-from_take_while}
+use Rattle.std.proofs.lemmas.Iterator.Consumers.{count_from_yields_List}
+use Rattle.std.proofs.lemmas.List.{take_all}
+use Rattle.std.proofs.lemmas.List.Folds.{length-prefix_len}
+use Rattle.swar.specs.Passing.{run_prefix}
 use Rattle.swar.proofs.run_tail.Goals as goal
 
-pub loop-i-init : goal.loop-i-init
-loop-i-init c = at_start c.requires
-
-pub returns-then-not-is_of : goal.returns-then-not-is_of
-returns-then-not-is_of c =
-    ends_at c.loop-i.invariant
-    (sym c.is_of.ensures ∙ not-true c.is_of.result c.if-not-is_of.true-raw)
-
-pub loop-i-preserved : goal.loop-i-preserved
-loop-i-preserved c =
-    one_more c.loop-i.invariant c.loop-i-test.true
-    (sym c.is_of.ensures ∙ not-false c.is_of.result c.if-not-is_of.false-raw)
-
 pub returns : goal.returns
-returns c = ends_all c.loop-i.invariant c.loop-i-test.false
+returns g c =
+    let kind = g.K.Kind.kind in
+    let s = c.args.s.now in
+    let rest = drop c.args.at s in
+    let whole = take_all (length s - c.args.at) rest (omega (arith, length-drop c.args.at s)) in
+    let many : c.count.result ≡ prefix_len kind rest =
+    count_from_yields_List c.take_while.result _ c.count.ensures.ran (YieldsList-from_take_while _ kind (YieldsList-from_slice rest cc) c.take_while.ensures.closure c.take_while.ensures.done (λ x b q k. search (rules, tests))) ∙ length-prefix_len kind rest in
+    rw many (run_prefix c.requires)

@@ -1,7 +1,7 @@
--- `seek::trace_from` meets its contract: behind the first blanks stands the root, and there are slots for all levels. Assumes nothing.
-use borrow.Author.Rules.{rules}
-use Rattle.trace.proofs.Trailing.{traces_root}
+-- `trace::trace_from` meets its contract: the keeper of the descent starts with no link, and takes those that it is told. Assumes nothing.
+use Rattle.trace.proofs.Held.{traces_from}
 use Rattle.trace.proofs.trace_from.Goals as goal
 
 pub returns : goal.returns
-returns c = traces_root _ _ _ _ _ _ _ c.skip_blanks-at.ensures c.trace_value-sought.ensures.seeks_value c.trace_value-sought.ensures.traces_value (search rules)
+returns c =
+    traces_from _ _ c.clear.new.self _ c.seek_from.result c.clear.ensures c.seek_from.ensures.finds c.seek_from.ensures.keeps

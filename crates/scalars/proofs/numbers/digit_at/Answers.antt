@@ -1,17 +1,13 @@
 -- `scalars::numbers::digit_at` meets its contract, by what is known of the place and its byte at each return. Assumes nothing.
-use mathlib.Core.Bool.{false≢true}
-use native.Mathlib.Omega.{arith}
-use Rattle.scalars.specs.Numbers.{under, over, digit_holds, digit_fails}
+use Rattle.std.proofs.Common.{rules}
+use Rattle.scalars.specs.Numbers.{under, over, digit_stands, no_digit_stands}
 use Rattle.scalars.proofs.numbers.digit_at.Goals as goal
 
-pub returns-then-at-s : goal.returns-then-at-s
-returns-then-at-s c = record { inside = λ e. absurd (false≢true e); is = λ h. absurd (omega (arith, c.if-at-s.true)) }
+pub returns-in-Some-48-to-57 : goal.returns-in-Some-48-to-57
+returns-in-Some-48-to-57 c = digit_stands (search rules) (search rules) (search rules)
 
-pub returns-then-s-at-lt-ZERO : goal.returns-then-s-at-lt-ZERO
-returns-then-s-at-lt-ZERO c = record { inside = λ e. absurd (false≢true e); is = λ h. digit_fails _ (under c.if-s-at-lt-ZERO.true) }
+pub returns-in_default : goal.returns-in_default
+returns-in_default c = no_digit_stands (λ h. under (search rules))
 
-pub returns-then-s-at-gt-NINE : goal.returns-then-s-at-gt-NINE
-returns-then-s-at-gt-NINE c = record { inside = λ e. absurd (false≢true e); is = λ h. digit_fails _ (over c.if-s-at-gt-NINE.true) }
-
-pub returns : goal.returns
-returns c = record { inside = λ e. c.if-at-s.false; is = λ h. digit_holds _ c.if-s-at-lt-ZERO.false c.if-s-at-gt-NINE.false }
+pub returns-in_default-2 : goal.returns-in_default-2
+returns-in_default-2 c = no_digit_stands (λ h. over (search rules))

@@ -2,8 +2,5 @@
 use Rattle.swar.specs.Passing.{run_on}
 use Rattle.scalars.proofs.numbers.many_digits_end.Goals as goal
 
-pub digits_end-requires : goal.digits_end-requires
-digits_end-requires c = c.digit_words-left.ensures.within
-
 pub returns : goal.returns
-returns c = run_on c.digit_words-left.ensures c.digits_end.ensures
+returns c = run_on c.passed.ensures c.digits_end.ensures

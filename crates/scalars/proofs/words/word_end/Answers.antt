@@ -1,15 +1,17 @@
 -- `scalars::words::word_end` meets its contract, by the first letter. Assumes nothing.
+use Rattle.std.proofs.Common.{rules}
+use Rattle.encoding.proofs.ReadsLaws.{reads_so}
 use Rattle.scalars.specs.Scalars.{true_name, null_name, false_name, word_begins, word_wrong}
 use Rattle.scalars.proofs.words.word_end.Goals as goal
 
-pub returns-then-b-eq116 : goal.returns-then-b-eq116
-returns-then-b-eq116 c = word_begins c.requires.0 true_name c.if-b-eq116.true c.letters_end.ensures
+pub returns-in-116 : goal.returns-in-116
+returns-in-116 c = reads_so (word_begins c.requires.0 true_name c.in-116.is) _ c.letters_end.ensures
 
-pub returns-then-b-eq110 : goal.returns-then-b-eq110
-returns-then-b-eq110 c = word_begins c.requires.0 null_name c.if-b-eq110.true c.letters_end-then-b-eq110.ensures
+pub returns-in-110 : goal.returns-in-110
+returns-in-110 c = reads_so (word_begins c.requires.0 null_name c.in-110.is) _ c.letters_end-in-110.ensures
 
-pub returns-then-b-eq102 : goal.returns-then-b-eq102
-returns-then-b-eq102 c = word_begins c.requires.0 false_name c.if-b-eq102.true c.false_end.ensures
+pub returns-in-102 : goal.returns-in-102
+returns-in-102 c = reads_so (word_begins c.requires.0 false_name c.in-102.is) _ c.letters_end-in-102.ensures
 
-pub returns : goal.returns
-returns c = word_wrong c.requires.0 c.requires.1 c.requires.2 c.if-b-eq116.false c.if-b-eq110.false c.if-b-eq102.false
+pub returns-in_default : goal.returns-in_default
+returns-in_default c = word_wrong c.requires.0 c.requires.1 c.requires.2 (search rules) (search rules) (search rules)

@@ -1,0 +1,5 @@
+pub mod CheckLaws
+pub mod NestLaws
+pub mod Opened
+pub mod Refusing
+pub mod TurnLaws
