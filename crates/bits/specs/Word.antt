@@ -1,6 +1,6 @@
 -- The number that has given bytes, the lowest first: its bits, and the machine's operations byte by byte. Assumes nothing.
 use Rattle.std.specs.Prelude.{◌≡◌, refl, Bool, true, false, List, ℕ, zero, suc, ◌+◌, ◌-◌, ◌*◌, ◌/◌, ◌%◌, ◌^◌, ◌<◌, ◌≤◌, ltb}
-use Rattle.std.proofs.Common.{sym, ap₂, ◌∙◌, ⊎_elim, mul_assoc, pow-add, ltb-true, ltb-false, le-ltb}
+use Rattle.std.proofs.Common.{sym, ap₂, ◌∙◌, ⊎_elim, suc-add, zero-add, add_assoc, mul_assoc, pow-add, ltb-true, ltb-false, le-ltb}
 use Rattle.std.proofs.Math.Path.{ap}
 use native.Mathlib.Omega.{arith}
 use Rattle.std.specs.Int.Bits.{bit_and, bit_or, bit_xor}
@@ -20,6 +20,13 @@ pub record Loaded (n : ℕ) (s : List ℕ) (i r : ℕ) : Type 0 where
   pub bits : (j : ℕ) → j < 8 * n → bit j r ≡ bit (j % 8) (get_or s (i + j / 8) 0)
   pub fits : r < 2 ^ (8 * n)
 
+-- words of equal bytes are equal
+pub word_same : (n : ℕ) (b d : ℕ → ℕ) → ((k : ℕ) → k < n → b k ≡ d k) → word n b ≡ word n d
+unfolding word
+word_same zero b d h = refl
+word_same (suc n) b d h =
+    ap₂ (λ (x y : ℕ). x * 256 + y) (word_same n (λ k. b (suc k)) (λ k. d (suc k)) (λ k l. h (suc k) (omega arith))) (h 0 (omega arith))
+
 byte_more : (n : ℕ) → 2 ^ (8 * suc n) ≡ 2 ^ (8 * n) * 256
 byte_more n = let e : 8 * suc n ≡ 8 * n + 8 = omega arith in ap (λ (x : ℕ). 2 ^ x) e ∙ pow-add 2 (8 * n) 8
 
@@ -27,6 +34,17 @@ pub word_lt : (n : ℕ) (b : ℕ → ℕ) → ((k : ℕ) → b k < 256) → word
 unfolding word
 word_lt zero b small = omega arith
 word_lt (suc n) b small = omega (arith, word_lt n (λ k. b (suc k)) (λ k. small (suc k)), small 0, byte_more n)
+
+-- m bytes, and n more after them
+pub word_join : (m n : ℕ) (b d : ℕ → ℕ) → ((k : ℕ) → d k ≡ b (m + k)) → word m b + word n d * 2 ^ (8 * m) ≡ word (m + n) b
+unfolding word
+word_join zero n b d h = omega (arith, word_same n d b (λ k l. h k ∙ ap b (zero-add k)), ap (λ (x : ℕ). word x b) (zero-add n))
+word_join (suc m) n b d h =
+    let r = word_join m n (λ k. b (suc k)) d (λ k. h k ∙ ap b (suc-add m k)) in
+    let p : word n d * 2 ^ (8 * suc m) ≡ word n d * 2 ^ (8 * m) * 256 =
+    ap (λ (x : ℕ). word n d * x) (byte_more m) ∙ sym (mul_assoc (word n d) (2 ^ (8 * m)) 256) in
+    let e : word (suc m + n) b ≡ word (m + n) (λ k. b (suc k)) * 256 + b 0 = ap (λ (x : ℕ). word x b) (suc-add m n) in
+    omega arith
 
 -- bit j is bit j % 8 of byte j / 8
 pub word_bit : (n : ℕ) (b : ℕ → ℕ) → ((k : ℕ) → b k < 256) → (j : ℕ) → j < 8 * n → bit j (word n b) ≡ bit (j % 8) (b (j / 8))
@@ -56,6 +74,20 @@ loaded n s i r small e = record {
   bits = λ j h. ap (bit j) e ∙ word_bit n (λ k. get_or s (i + k) 0) (λ k. small (i + k)) j h;
   fits = rw e (word_lt n (λ k. get_or s (i + k) 0) (λ k. small (i + k)));
 }
+
+-- a byte as a word, and a word with another after it
+module _ (s : List ℕ) (small : (k : ℕ) → get_or s k 0 < 256) (i : ℕ) where
+  pub load_one : (r : ℕ) → r ≡ get_or s i 0 → Loaded 1 s i r
+  unfolding word
+  load_one r e =
+      let z : i ≡ i + 0 = omega arith in
+      let d : get_or s i 0 ≡ get_or s (i + 0) 0 = ap (λ (k : ℕ). get_or s k 0) z in
+      loaded 1 s i r small (omega arith)
+
+  pub load_join : (m n x y : ℕ) → Loaded m s i x → Loaded n s (i + m) y → Loaded (m + n) s i (x + y * 2 ^ (8 * m))
+  load_join m n x y a b = loaded (m + n) s i (x + y * 2 ^ (8 * m)) small
+      (ap₂ (λ (u v : ℕ). u + v * 2 ^ (8 * m)) a.is_word b.is_word
+      ∙ word_join m n (λ k. get_or s (i + k) 0) (λ k. get_or s (i + m + k) 0) (λ k. ap (λ (x : ℕ). get_or s x 0) (add_assoc i m k)))
 
 -- ---- operations byte by byte
 

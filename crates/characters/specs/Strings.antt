@@ -114,7 +114,7 @@ hex_start {s} {i} f n e h = rw e (led_here s i (hex_due 3 f) h)
 
 module _ {s : List ℕ} {a : ℕ} {c : Ctl} (f : Bool) (n : ℕ) {i : ℕ} (p : Led s a c (hex_left n f) true i) where
   module _ (l : 0 < n) where
-    hex_next : Led s a c (hex_due (n - 1) f) true i
+    pub hex_next : Led s a c (hex_due (n - 1) f) true i
     hex_next = let e : n ≡ suc (n - 1) = omega arith in rw e at p
 
     pub hex_end_lem : length s ≤ i → Led s a c (in_string f) false i

@@ -2,7 +2,7 @@
 -- end below it. Assumes nothing.
 use Rattle.std.specs.Prelude.{◌≡◌, Bool, true, false, ◌&&◌, leb, length, drop, None}
 use Rattle.std.proofs.Math.Path.{refl, ap}
-use Rattle.std.proofs.Common.{◌∙◌, leb→le, leb-true, leb-false}
+use Rattle.std.proofs.Common.{sym, ◌∙◌, leb→le, leb-true, leb-false}
 use mathlib.Core.List.{List, [], ◌∷◌, map}
 use Prim.Native.Nat.{ℕ, zero, suc, ◌+◌, ◌-◌, ◌≤◌, ◌<◌}
 use native.Mathlib.Omega.{arith}
@@ -11,9 +11,10 @@ use Rattle.bits.specs.Truth.{all_below, all_at}
 use Rattle.encoding.specs.BytesLaws.{beneath, beyond}
 use Rattle.encoding.specs.declared.tables.Row.{Row as Stored}
 use Rattle.encoding.specs.Utf8.{Row, rows}
-use Rattle.encoding.specs.CodePoint.{due, decode_by, decoding}
+use Rattle.encoding.specs.CodePoint.{due, wrong, decode_by, decoding, extent}
 use Rattle.encoding.specs.RowTable.{stored, RowTable, HasFirst, RowFor, Narrow, one_byte, more_bytes}
 use Rattle.encoding.specs.Utf8Steps.{row_at, row_hit}
+use Rattle.encoding.proofs.CodePointLaws.{extent_later}
 
 -- every row has a byte at least
 has_byte : ℕ → Bool
@@ -72,6 +73,30 @@ module _ (b : ℕ) where
   none_after (suc zero) n e f l = let z : n + 1 ≡ 9 = omega arith in rw z at (from_under n (omega arith) f l)
   none_after (suc (suc m)) n e f l =
       none_after (suc m) (n + 1) (omega arith) (from_under n (omega arith) f l) (omega (arith, ascends n (omega arith)))
+
+  -- a row that has b as a first byte says what one of the nine does that has it
+  pub one_of_rows : {r : Stored} → HasFirst b r → (n : ℕ) × (n < 9) × HasFirst b (stored (row_at rows n))
+  one_of_rows {r} f = go 8 1 (omega arith) from_start
+    where
+      no_row : From 9 → ⊥
+      no_row e =
+          let rest = due r.second_low r.second_high (r.bytes - 1) [] in
+          let none : decoding (b ∷ []) ≡ wrong 0 = from_end e [] in
+          omega (arith, ap (extent (b ∷ [])) (sym (f.reads []) ∙ none), extent_later b [] rest)
+
+      go : (m n : ℕ) → n + m ≡ 9 → From n → (n : ℕ) × (n < 9) × HasFirst b (stored (row_at rows n))
+      go zero n e g = let z : n ≡ 9 = omega arith in absurd (no_row (rw z at g))
+      go (suc m) n e g = by (leb (row_at rows n).low b) refl (leb b (row_at rows n).high) refl (go m (n + 1) (omega arith))
+        where
+          h : n < 9
+          h = omega arith
+
+          by :
+              (x : Bool) → leb (row_at rows n).low b ≡ x → (y : Bool) → leb b (row_at rows n).high ≡ y →
+              (From (n + 1) → (n : ℕ) × (n < 9) × HasFirst b (stored (row_at rows n))) → (n : ℕ) × (n < 9) × HasFirst b (stored (row_at rows n))
+          by false l y u next = next (from_under n h g (leb-false (row_at rows n).low b l))
+          by true l false u next = next (from_over n h g (leb-false b (row_at rows n).high u))
+          by true l true u next = (n, h, row_found n h g (leb-true (row_at rows n).low b l) (leb-true b (row_at rows n).high u))
 
 stored_at : (rs : List Row) (n : ℕ) (d : Stored) → n < length rs → get_or (map stored rs) n d ≡ stored (row_at rs n)
 stored_at [] n d h = absurd (omega arith)

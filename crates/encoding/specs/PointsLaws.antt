@@ -61,6 +61,20 @@ module _ (n : ℕ) where
       go true e = omega (arith, utf8_three (ltb-true n 0x10000 e))
       go false e = rw (utf8_4 n [] (ltb-false n 0x10000 e)) (omega arith)
 
+  pub utf8_some : 1 ≤ length (utf8 n [])
+  unfolding utf8
+  utf8_some = go (ltb n 0x80) (ltb n 0x800) (ltb n 0x10000)
+    where
+      go :
+          (x y z : Bool) →
+          1 ≤ length (if_else x (n ∷ []) (if_else y ((0xC0 + n / 64) ∷ (0x80 + n % 64) ∷ [])
+          (if_else z ((0xE0 + n / 4096) ∷ (0x80 + n / 64 % 64) ∷ (0x80 + n % 64) ∷ [])
+          ((0xF0 + n / 262144) ∷ (0x80 + n / 4096 % 64) ∷ (0x80 + n / 64 % 64) ∷ (0x80 + n % 64) ∷ []))))
+      go true y z = omega arith
+      go false true z = omega arith
+      go false false true = omega arith
+      go false false false = omega arith
+
 -- the bytes alone, and what is after them
 pub utf8_append : (n : ℕ) (s : List ℕ) → utf8 n s ≡ utf8 n [] ++ s
 unfolding utf8

@@ -1,8 +1,10 @@
 -- The nine rows of UTF-8 as a table: five numbers for each (document 01, "UTF-8 is read by nine rows of permitted byte ranges").
 use Rattle.std.specs.Prelude.{◌≡◌, Bool, true, false, ℕ, ◌-◌, ◌≤◌, ◌<◌, List, ◌∷◌, map, Option, Some, None}
+use Rattle.std.proofs.Common.{arith}
 use Rattle.encoding.specs.declared.tables.Row.{Row as Stored}
 use Rattle.encoding.specs.Utf8.{Row, rows}
 use Rattle.encoding.specs.CodePoint.{whole, wrong, later, due, decode_by, decoding}
+use Rattle.encoding.specs.Utf8Steps.{row_at, row_hit}
 
 -- a row as it stands in the table
 abbrev pub stored : Row → Stored
@@ -39,3 +41,17 @@ module _ {b : ℕ} {r : Bool} (n : Narrow b r) where
     where
       by : Narrow b false → 0x80 ≤ b
       by (more_bytes h) = h
+
+-- the first row has every byte below 80 and no other, and nothing is due after one
+module _ {b : ℕ} where
+  pub under_first : b < (row_at rows 0).low → {r : Bool} → Narrow b r
+  unfolding rows
+  under_first l = absurd (omega arith)
+
+  pub over_first : (row_at rows 0).high < b → Narrow b false
+  unfolding rows
+  over_first u = more_bytes (omega arith)
+
+  pub in_first : (row_at rows 0).low ≤ b → b ≤ (row_at rows 0).high → Narrow b true
+  unfolding rows due
+  in_first l u = one_byte (omega arith) (λ s. row_hit b s 0 rows (omega arith) l u)

@@ -1,7 +1,7 @@
 -- Laws of the query and the record in the input: the query ends at the first line feed or at the end, and the record begins after it.
-use Rattle.std.specs.Prelude.{◌≡◌, refl, Bool, true, false, cond, Some, None, ℕ, suc, ◌+◌, ◌-◌, ◌≤◌, eqb, ltb, length, take, drop}
+use Rattle.std.specs.Prelude.{◌≡◌, refl, Bool, true, false, cond, Some, None, ℕ, suc, ◌+◌, ◌-◌, ◌≤◌, ◌<◌, eqb, ltb, length, take, drop, get_or}
 use Rattle.std.specs.List.{position, position_or_len}
-use Rattle.std.proofs.Common.{ap, sym, ◌∙◌, arith, eq-eqb, ne_eqb, eqb-true, ltb-false, drop_of_length-le, length-drop, take_all}
+use Rattle.std.proofs.Common.{ap, sym, ◌∙◌, add-one, arith, eq-eqb, ne_eqb, eqb-true, ltb-false, drop_of_length-le, length-take, length-drop, drop-cons, take_all}
 use mathlib.Core.List.{List, [], ◌∷◌, ◌++◌, Memᴰ}
 use Rattle.std.proofs.lemmas.Bool.{eqb-false}
 use Rattle.std.proofs.lemmas.List.Recursion.{is_position_or_len}
@@ -47,6 +47,18 @@ unfolding record_in_of
 record_none [] n = refl
 record_none (b ∷ q) n = record_other b q (λ e. n (Memᴰ.head (sym e))) ∙ record_none q (λ m. n (Memᴰ.tail m))
 
+-- the same by places: what one byte adds to the query
+module _ (s : List ℕ) (i : ℕ) where
+  pub query_stops : i < length s → get_or s i 0 ≡ feed → length (query_in_of (drop i s)) ≡ 0
+  query_stops h e = rw (drop-cons s i 0 h, query_feed (get_or s i 0) (drop (suc i) s) e)
+
+  pub query_goes_on : i < length s → (get_or s i 0 ≡ feed → ⊥) → length (query_in_of (drop i s)) ≡ 1 + length (query_in_of (drop (i + 1) s))
+  query_goes_on h n = rw (drop-cons s i 0 h, query_other (get_or s i 0) (drop (suc i) s) n, add-one i) (omega arith)
+
+  pub query_ends : length s ≤ i → length (query_in_of (drop i s)) ≡ 0
+  unfolding query_in_of
+  query_ends h = rw (drop_of_length-le s h)
+
 -- both as parts of the input
 pub query_part : (s : List ℕ) → take (length (query_in_of s)) s ≡ query_in_of s
 unfolding query_in_of
@@ -67,6 +79,30 @@ record_part (b ∷ s) = go (eqb b feed) refl (record_part s)
     go false e on =
         let n : suc (length (query_in_of s)) + 1 ≡ suc (length (query_in_of s) + 1) = omega arith in
         rw (query_other b s (eqb-false b feed e), record_other b s (eqb-false b feed e), n) on
+
+query_within : (s : List ℕ) → length (query_in_of s) ≤ length s
+query_within s = omega (arith, ap length (query_part s), length-take (length (query_in_of s)) s)
+
+-- the parts as they are lent: with n the length of the query
+module _ (s : List ℕ) (n : ℕ) (is : n ≡ length (query_in_of s)) where
+  pub query_lent : take n s ≡ query_in_of s
+  query_lent = rw is (query_part s)
+
+  pub query_fits : n ≤ length s
+  query_fits = rw is (query_within s)
+
+  rest : (k : ℕ) → take (length s - k) (drop k s) ≡ drop k s
+  rest k = take_all (length s - k) (drop k s) (omega (arith, length-drop k s))
+
+  pub record_lent : take (length s - (n + 1)) (drop (n + 1) s) ≡ record_in_of s
+  record_lent = rest (n + 1) ∙ rw is (record_part s)
+
+  -- where the query is all of the input
+  pub record_empty : n ≡ length s → take (length s - n) (drop n s) ≡ record_in_of s
+  record_empty e =
+      let e₀ : drop n s ≡ [] = drop_of_length-le s {i = n} (omega arith) in
+      let d : drop (length (query_in_of s) + 1) s ≡ [] = drop_of_length-le s {i = length (query_in_of s) + 1} (omega arith) in
+      rest n ∙ e₀ ∙ sym d ∙ record_part s
 
 -- the query is as long as there are bytes before the first line feed
 query_length : (s : List ℕ) → length (query_in_of s) ≡ position_or_len (λ b. eqb b feed) s

@@ -1,5 +1,5 @@
 -- From what is admitted and what the walk promises to a lister's promise. Assumes nothing.
-use Rattle.std.specs.Prelude.{◌≡◌, refl, List, ℕ, ◌≤◌, Option, Some, None, Ok, Err, length}
+use Rattle.std.specs.Prelude.{◌≡◌, refl, List, ℕ, ◌≤◌, ◌<◌, Option, Some, None, Ok, Err, length}
 use Rattle.std.proofs.Common.{ap, ◌∙◌, arith, length-take}
 use Rattle.std.proofs.Math.Nat.{min-le_right}
 use Rattle.json_text.specs.Grammar.{Tree}
@@ -49,6 +49,13 @@ module _ {q r names : List ℕ} {s : Compiled} (admitted : Admits q r names (Ok 
         rw (walked.counts (steps_in q) admitted.steps_are the_tree the_record.written the_record.levels) at
         (tally_is (steps_in q) the_tree l)
 
+    -- the first node left over begins before the limit
+    pub stop_before : (first : ℕ) → c.stop ≡ Some first → first < max_bytes
+    stop_before p e =
+        let size = ap length the_record.written in
+        let short = the_record.bytes in
+        omega (arith, ap plus_one e, whole.stop_is, stop_few the_tree (steps_in q) (pairs_of l))
+
     pub countable : Countable c
     countable =
         let size = ap length the_record.written in
@@ -63,7 +70,7 @@ module _ {q r names : List ℕ} {s : Compiled} (admitted : Admits q r names (Ok 
                 spans_few the_tree (steps_in q),
               );
           peak_small = λ e. omega (arith, whole.peak_is (ap plus_one e), peak_few the_tree (steps_in q));
-          stop_small = λ p e. omega (arith, ap plus_one e, whole.stop_is, stop_few the_tree (steps_in q) (pairs_of l));
+          stop_small = λ p e. omega (arith, stop_before p e);
         }
 
     pub listed_all : {a : Answer} → a ≡ concluded c.used c.peak c.stop → Listed q r l after a

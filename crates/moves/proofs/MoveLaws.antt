@@ -1,6 +1,6 @@
 -- Laws of the tables of moves. That the whole table leads where the machine goes is computed for every byte and every state.
 use Rattle.std.specs.Prelude.{◌≡◌, refl, List, [], ◌∷◌, ◌++◌, Bool, true, false, ◌&&◌, ◌||◌, ℕ, ◌+◌, ◌-◌, ◌*◌, ◌/◌, ◌%◌, ◌^◌, ◌≤◌, ◌<◌, T, leb, ltb, eqb, length, get_or, set, take, map, replicate}
-use Rattle.std.proofs.Common.{ap, sym, subst, ◌∙◌, arith, leb→le, eqb→eq, length-set, get_or-set_same, get_or-set_other, eqb-true}
+use Rattle.std.proofs.Common.{ap, ap₂, sym, subst, ◌∙◌, arith, leb→le, eqb→eq, length-set, get_or-set_same, get_or-set_other, eqb-true, ne_eqb}
 use Rattle.std.proofs.Math.Logic.{∥∥₁_elim}
 use Rattle.std.proofs.Math.Nat.{ℕ_set, zero-div}
 use Rattle.std.proofs.Math.Option.{some}
@@ -39,6 +39,15 @@ joined_then (m ∷ ms) ns b w = joined_then ms ns b (with_move m.low m.high (sta
 pub added_then : {t t' t'' : List ℕ} {ms ns : List Move} → Added ms t t' → Added ns t' t'' → Added (ms ++ ns) t t''
 added_then {t} {t'} {t''} {ms} {ns} x y =
     record { long = y.long; each = λ b h. y.each b h ∙ ap (joined ns b) (x.each b h) ∙ sym (joined_then ms ns b (get_or t b 0)) }
+
+-- the state after the second of so many bytes
+pub second_last : {n : ℕ} → (n ≡ 4 → ⊥) → (n ≡ 3 → ⊥) → 57 ≡ state_of (after_second_of n)
+second_last {n} f t =
+    ap₂ (λ (x y : Bool). state_of (elim x [ true ↦ point U.two | false ↦ elim y [ true ↦ point U.one | false ↦ between ] ]))
+    (sym (ne_eqb n 4 f)) (sym (ne_eqb n 3 t))
+
+pub second_same : {n k : ℕ} → n ≡ k → state_of (after_second_of k) ≡ state_of (after_second_of n)
+second_same e = ap (λ (k : ℕ). state_of (after_second_of k)) (sym e)
 
 -- the two moves of a row
 pub row_added : {r : Row} {state second : ℕ} {t t' t'' : List ℕ} → MoveAdded r.low r.high 57 state t t' → second ≡ state_of (after_second_of r.bytes)
@@ -246,6 +255,10 @@ leads_all {t} a =
     follows p b h =
         subst (λ (q : Stand). T (follows_from (word_of b) b q)) (stand_is p)
         (all_at 9 (λ n. follows_from (word_of b) b (stand_at n)) (and_right (nothing b) (each b) (is_sound b h)) (state_of p / 6 - 1) (stand_within p))
+
+-- a word of zeros has no state
+zero-state : (p : Stand) → bit_and (0 / 2 ^ state_of p) 63 ≡ 0
+zero-state p = rw (zero-div (2 ^ state_of p))
 
 pub leads_nowhere : Leads (replicate 256 0)
 leads_nowhere = record { nowhere = λ b h. none b h 0; somewhere = λ p b h. nowhere_by (none b h (state_of p)) }

@@ -7,6 +7,8 @@ use Prim.Native.Nat.{ℕ, suc, ◌+◌, ◌≤◌, ◌<◌}
 use native.Mathlib.Omega.{arith}
 use lib.Dec.{eqb, eqb-suc-zero}
 use lib.ListN.{length, get_or, drop, length-append}
+use denote.Bor.{Bor}
+use Rattle.std.specs.Prelude.{Option, Some, None}
 use Rattle.std.specs.Cmp.Lexicographic.{pointwise}
 use Rattle.std.proofs.lemmas.List.{append_cancel_left}
 use Rattle.bits.specs.Truth.{refuted}
@@ -16,6 +18,7 @@ use Rattle.encoding.specs.Points.{utf8}
 use Rattle.encoding.specs.Unescape.{unescaped}
 use Rattle.escapes.specs.Escapes.{EscapeAt}
 use Rattle.escapes.specs.LeftLaws.{rest_at}
+use Rattle.names.specs.Names.{After}
 use Rattle.names.proofs.Decoding.{Decoded, decoded_start, decoded_end, decoded_byte, decoded_escape}
 
 -- equality of slices is that of their numbers
@@ -25,6 +28,15 @@ same_bytes [] [] = refl
 same_bytes [] (c ∷ t) = refl
 same_bytes (b ∷ s) [] = refl
 same_bytes (b ∷ s) (c ∷ t) = ap (λ (x : Bool). eqb b c && x) (same_bytes s t)
+
+-- bytes and then more
+pub after_both : {name : List ℕ} (a b : List ℕ) (first : Bor (List ℕ)) (r : Option (Bor (List ℕ))) → After name a (Some first) → After first.now b r
+    → After name (a ++ b) r
+after_both a b first None f g = λ rest e. g rest (append_cancel_left a first.now (b ++ rest) (sym f ∙ e ∙ append_assoc a b rest))
+after_both a b first (Some second) f g = f ∙ ap (λ (l : List ℕ). a ++ l) g ∙ sym (append_assoc a b second.now)
+
+pub after_neither : {name : List ℕ} (a b : List ℕ) → After name a None → After name (a ++ b) None
+after_neither a b f = λ rest e. f (b ++ rest) (e ∙ append_assoc a b rest)
 
 -- the name begins with what is decoded so far, and these are what is left of both
 pub record Passed (name s rest : List ℕ) (j : ℕ) : Type 0 where

@@ -1,9 +1,10 @@
 -- What bytes written into the buffer leave there: they can be read back, what stood before them still can, and the length is kept. Writing
 -- goes on where it ended. Assumes nothing.
-use Rattle.std.specs.Prelude.{◌≡◌, List, [], ◌++◌, ℕ, ◌+◌, ◌≤◌, length, take, drop}
+use Rattle.std.specs.Prelude.{◌≡◌, refl, List, [], ◌∷◌, ◌++◌, ℕ, ◌+◌, ◌≤◌, ◌<◌, length, take, drop, set}
 use Rattle.std.proofs.Common.{sym, ap, ap₂, ◌∙◌, append_assoc, append-nil, add-zero, arith, length-append, length-drop, take-append-drop, take_at, drop_at, drop-drop, length-take-le, take-take}
 use Rattle.std.proofs.Math.Seq.{slice}
 use Rattle.std.proofs.lemmas.List.{take-append-le}
+use Rattle.std.proofs.lemmas.List.Edits.{sets-eq}
 use Rattle.names.specs.Names.{Written}
 
 module _ {before : List ℕ} {i : ℕ} {bytes after : List ℕ} {r : ℕ} (w : Written before i bytes after r) (h : i ≤ length before) where
@@ -47,7 +48,10 @@ module _ {before : List ℕ} {i : ℕ} {bytes after : List ℕ} {r : ℕ} (w : W
       dropped : drop r' after ≡ drop r' before
       dropped = rw v.end (sym (drop-drop (length more) r after) ∙ ap (drop (length more)) behind ∙ drop-drop (length more) r before)
 
--- nothing
+-- nothing, and one byte
 pub written_none : (s : List ℕ) (i : ℕ) → Written s i [] s i
 written_none s i =
     record { end = sym (add-zero i); all = sym (ap (λ (l : List ℕ). l ++ drop i s) (append-nil (take i s)) ∙ take-append-drop i s) }
+
+pub written_byte : (s : List ℕ) (i b : ℕ) → i < length s → Written s i (b ∷ []) (set s i b) (i + 1)
+written_byte s i b h = record { end = refl; all = sets-eq (b ∷ []) s i (omega arith) }

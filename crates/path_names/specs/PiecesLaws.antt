@@ -5,7 +5,7 @@ use Rattle.std.proofs.Math.Path.{ap}
 use mathlib.Core.List.{List, [], ◌∷◌, ◌++◌}
 use Rattle.encoding.specs.Points.{utf8}
 use Rattle.encoding.specs.PointsLaws.{utf8_1, utf8_2, utf8_3, utf8_4, utf8_four, utf8_append}
-use Rattle.paths.specs.Rendered.{rendered}
+use Rattle.paths.specs.Rendered.{hex_lower_of, rendered}
 use Rattle.paths.specs.RenderedLaws.{NoShort, View, short, control, plain, view, render_short, render_control, render_plain, render_high}
 use Rattle.path_names.specs.Escaped.{put_escaped}
 use Rattle.path_names.specs.Pieces.{point_piece, byte_piece, control_piece, Letter, named, nameless}
@@ -83,6 +83,12 @@ module _ (b : ℕ) where
   pub high_piece : 0x80 ≤ b → byte_piece b ≡ b ∷ []
   unfolding byte_piece
   high_piece h = render_high b (b ∷ []) [] h
+
+-- the escape of a control in three parts
+pub control_parts :
+    (n : ℕ) {d : ℕ} → d ≡ hex_lower_of (n % 16) → control_piece n ≡ (0x5C ∷ 0x75 ∷ 0x30 ∷ 0x30 ∷ []) ++ (((0x30 + n / 16) ∷ []) ++ (d ∷ []))
+unfolding control_piece
+control_parts n e = rw e
 
 -- the piece of a code point by its letter
 pub letter_piece : {n r : ℕ} → Letter n (Some r) → point_piece n ≡ 0x5C ∷ r ∷ []

@@ -1,13 +1,13 @@
 -- What a test of a byte says: the ways to say its answer, which the proofs of the tests go through, and what an answer says of a digit.
 -- Assumes nothing.
-use Rattle.std.specs.Prelude.{◌≡◌, Bool, true, false, ℕ, ◌≤◌}
+use Rattle.std.specs.Prelude.{◌≡◌, Bool, true, false, ℕ, ◌≤◌, Option, Some}
 use Rattle.std.proofs.lemmas.Bool.{false≢true}
-use Rattle.std.proofs.Common.{true≢false}
+use Rattle.std.proofs.Common.{true≢false, subst}
 use Rattle.encoding.specs.Bytes as B
 use Rattle.encoding.specs.Bytes.{Blank, blank_byte}
 use Rattle.query_lexer.specs.Scans.{BlankIs, blank, other}
 use Rattle.query_lexer.specs.Scans.{digit, upper, underscore, lower, below_digits, below_upper, between_cases, above_lower}
-use Rattle.query_lexer.specs.Scans.{IsDigit, DigitIs, is_digit, no_digit, more, none}
+use Rattle.query_lexer.specs.Scans.{IsDigit, DigitIs, is_digit, no_digit, LeadsOn, more, none}
 
 -- a blank
 
@@ -54,3 +54,9 @@ not_digit (no_digit f) e = f
 -- one that leads on
 
 pub ruleset leads_on_cases = (more, none, a_digit, not_digit)
+
+pub leading_digit : {v b w : ℕ} {x : Option ℕ} → LeadsOn v b x → x ≡ Some w → IsDigit b
+leading_digit {v} {b} {w} d e = go (subst (LeadsOn v b) e d)
+  where
+    go : LeadsOn v b (Some w) → IsDigit b
+    go (more p x q m) = x

@@ -1,8 +1,8 @@
 -- Numbers (RFC 8259 §6) as the record grammar's machine takes them.
-use Rattle.std.specs.Prelude.{◌≡◌, List, [], ◌∷◌, ◌++◌, Bool, true, false, ◌⊎◌, ℕ, ◌+◌, ◌≤◌, ◌<◌, length, get_or}
+use Rattle.std.specs.Prelude.{◌≡◌, List, [], ◌∷◌, ◌++◌, Bool, true, false, not, ◌⊎◌, ℕ, ◌+◌, ◌≤◌, ◌<◌, length, get_or}
 use Rattle.std.proofs.Math.Path.{refl}
 use Rattle.std.proofs.Common.{sym, ◌∙◌, append_assoc, true≢false, inl, inr, ⊎_elim, arith}
-use Rattle.std.proofs.lemmas.Bool.{false≢true}
+use Rattle.std.proofs.lemmas.Bool.{false≢true, not-false}
 use Rattle.std.proofs.Math.Option.{Option, some, none}
 use Rattle.bits.specs.Laws.{lt_or_ge}
 use Rattle.encoding.specs.BytesLaws.{beneath, beyond}
@@ -54,6 +54,9 @@ module _ {s : List ℕ} {i : ℕ} where
 
   pub no_digit_stands : (i < length s → NoDigit (get_or s i 0)) → DigitAt s i false
   no_digit_stands n = record { inside = λ e. absurd (false≢true e); is = λ h. digit_fails _ (n h) }
+
+pub digit_inside : {s : List ℕ} {i : ℕ} {r : Bool} → DigitAt s i r → not r ≡ false → i < length s
+digit_inside {r = r} d e = d.inside (not-false r e)
 
 -- a run of digits goes on with one, and ends where none stands
 module _ {s : List ℕ} {i : ℕ} {r : Bool} (d : DigitAt s i r) {from : ℕ} (p : Passed digit s from i) where
@@ -324,6 +327,15 @@ module _ {s : List ℕ} {i : ℕ} where
 module _ {s : List ℕ} {i : ℕ} where
   minus_here : i ≤ length s → Led s i after_minus after_minus true i
   minus_here = led_here s i after_minus
+
+  pub whole_none : i ≤ length s → length s ≤ i → WholePart s i i
+  whole_none l h =
+      record {
+        forward = omega arith;
+        within = l;
+        none = λ e. led_end (minus_here l) after h refl;
+        some = λ n. absurd (n refl);
+      }
 
   pub whole-zero : AmongAt (0x30 ∷ []) s i true → WholePart s i (i + 1)
   unfolding step

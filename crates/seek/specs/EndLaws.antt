@@ -4,14 +4,15 @@ use Rattle.std.specs.Prelude.{◌≡◌, eqb}
 use Rattle.std.proofs.Math.Path.{refl, sym}
 use Rattle.std.proofs.Common.{ap, ◌∙◌, arith}
 use mathlib.Core.List.{List, [], ◌∷◌, ◌++◌}
-use Rattle.std.proofs.Math.Option.{some, none}
+use Rattle.std.proofs.Math.Bool.{Bool, true, false}
+use Rattle.std.proofs.Math.Option.{Option, some, none}
 use Prim.Native.Nat.{ℕ, suc, ◌+◌, ◌<◌}
 use Rattle.json_text.specs.Grammar as G
 use Rattle.json_text.specs.Grammar.{Kind, Value, Items}
 use Rattle.select.specs.Nodes.{size, end_of}
-use Rattle.select.specs.Order.{Rises, firsts, visits_rise}
+use Rattle.select.specs.Order.{Rises, firsts, visits_rise, first_before_end}
 use Rattle.select.specs.Visits.{Visit, Way, step, visit, visits, items_visits, node_visits}
-use Rattle.answers.specs.Finder.{end_among}
+use Rattle.answers.specs.Finder.{end_among, or_zero}
 use Rattle.scan.specs.Scans.{IsScalar}
 use Rattle.seek.specs.Among.{head_or, among, head_found, head_other, among_first, among_second}
 
@@ -36,6 +37,19 @@ module _ (o : ℕ) where
 
   pub found_second : (xs ys : List (Visit Way)) → end_among xs o ≡ none → end_among (xs ++ ys) o ≡ end_among ys o
   found_second xs ys h = ends_among (xs ++ ys) ∙ among_second own_end o xs ys (sym (ends_among xs) ∙ h) ∙ sym (ends_among ys)
+
+  -- no end is 0
+  pub none_found : (vs : List (Visit Way)) → or_zero (end_among vs o) ≡ 0 → end_among vs o ≡ none
+  unfolding end_among or_zero
+  none_found [] h = refl
+  none_found (v ∷ vs) h = go (eqb v.node.first o) h (none_found vs)
+    where
+      head_end : Bool → Option ℕ
+      head_end b = elim b [ true ↦ some (end_of v.node) | false ↦ end_among vs o ]
+
+      go : (b : Bool) → or_zero (head_end b) ≡ 0 → (or_zero (end_among vs o) ≡ 0 → end_among vs o ≡ none) → head_end b ≡ none
+      go true h again = absurd (omega (arith, first_before_end v.node))
+      go false h again = again h
 
   -- all nodes begin behind the offset
   none_behind : (a e : ℕ) (vs : List (Visit Way)) → Rises a (firsts vs) e → o < a → end_among vs o ≡ none

@@ -1,5 +1,5 @@
 -- Which bytes are of which kind, both ways.
-use Rattle.std.specs.Prelude.{◌≡◌, true, false, ◌⊎◌, ℕ, ◌≤◌, ◌<◌}
+use Rattle.std.specs.Prelude.{◌≡◌, true, false, not, ◌⊎◌, ℕ, ◌≤◌, ◌<◌, eqb}
 use Rattle.std.proofs.Common.{sym, ◌∙◌, true≢false, inl, inr, ⊎_elim, arith}
 use borrow.Author.Tests.{le-leb, lt-leb, eq-eqb, ne_eqb, eqb-true}
 use Rattle.bits.specs.Laws.{lt_or_ge}
@@ -7,7 +7,7 @@ use Rattle.encoding.specs.Bytes.{Blank, space, tab, feed, return, blank_byte}
 use Rattle.encoding.specs.BytesLaws.{inside, beneath, beyond}
 use Rattle.encoding.specs.Class.{class_of}
 use Rattle.encoding.specs.ClassLaws as Class
-use Rattle.lanes.specs.Kinds.{plain, gap, space_byte}
+use Rattle.lanes.specs.Kinds.{plain, bare, gap, space_byte}
 use Rattle.swar.specs.Kinds.{blank}
 
 -- a plain byte, by the range that it is of
@@ -75,6 +75,25 @@ module _ {b : ℕ} where
   above_blanks h tab e = omega arith
   above_blanks h feed e = omega arith
   above_blanks h return e = omega arith
+
+  -- from 20 to 7F all but two are plain
+  pub plain_within : 0x20 ≤ b → b ≤ 0x7F → (b ≡ 0x22 → ⊥) → (b ≡ 0x5C → ⊥) → plain b ≡ true
+  plain_within l h q s = go (plain_or_not b)
+    where
+      go : Plain b ⊎ NotPlain b → plain b ≡ true
+      go (inl p) = plain_holds p
+      go (inr (control u)) = absurd (omega arith)
+      go (inr (quote e)) = absurd (q e)
+      go (inr (backslash e)) = absurd (s e)
+      go (inr (wide u)) = absurd (omega arith)
+
+  pub bare_quote : b ≡ 0x22 → bare b ≡ false
+  unfolding bare
+  bare_quote e = rw e
+
+  pub bare_else : (b ≡ 0x22 → ⊥) → not (eqb b 0x5C) ≡ bare b
+  unfolding bare
+  bare_else f = rw (ne_eqb b 0x22 f)
 
   pub gap_holds : b ≤ 0x20 → gap b ≡ true
   unfolding gap

@@ -1,7 +1,7 @@
 -- Laws of a text put into a buffer: texts put one after the other are one text.
-use Rattle.std.specs.Prelude.{◌≡◌, refl, ℕ, ◌+◌, ◌-◌, ◌≤◌, ◌<◌, set}
+use Rattle.std.specs.Prelude.{◌≡◌, refl, ℕ, ◌+◌, ◌-◌, ◌≤◌, ◌<◌, get_or, set}
 use Rattle.std.proofs.Math.Path.{ap, sym}
-use Rattle.std.proofs.Common.{◌∙◌, add-zero, zero-add, add-one, arith, length-append, length-take, length-drop, take-append-drop, take_at}
+use Rattle.std.proofs.Common.{◌∙◌, add-zero, zero-add, add-one, arith, drop_of_length-le, length-append, length-take, length-drop, take-append-drop, take_at, drop-cons}
 use mathlib.Core.List.{List, [], ◌∷◌, ◌++◌, append_assoc}
 use Rattle.std.proofs.Math.ListN.{length, take, drop}
 use Rattle.std.proofs.Math.Seq.{length-take-le, drop_at, drop-drop, take-append-le, take-take}
@@ -98,12 +98,29 @@ printed {t} {b} {a} {j} p room =
       beyond = rw (e, p.after_is) (drop_at t (drop (0 + length t) b) (length t) refl ∙ rw (zero-add (length t)));
     }
 
--- a text byte by byte, from its last byte on
+-- a text byte by byte, from its first byte on
+pub put_next : (x : ℕ) (t : List ℕ) (at : ℕ) (b : List ℕ) → Room (x ∷ t) at b → put t (at + 1) (set b at x) ≡ put (x ∷ t) at b
+put_next x t at b room = rw (← put_one at b x (omega arith)) (put_both (x ∷ []) t at b room)
+
+-- and from its last byte on
 pub put_last :
     (s : List ℕ) (x at : ℕ) (b : List ℕ) → Room (s ++ (x ∷ [])) at b → put s at (set b (at + length s) x) ≡ put (s ++ (x ∷ [])) at b
 put_last s x at b room =
     let h : at + length s < length b = omega (arith, both_length s (x ∷ []) at b room) in
     rw (← put_one (at + length s) b x h) (put_back s (x ∷ []) at b room)
+
+-- the byte at i of a word, and the bytes after it
+pub put_from :
+    (w : List ℕ) (i at : ℕ) (b : List ℕ) → i < length w → at + length w ≤ length b →
+    put (drop (i + 1) w) (at + (i + 1)) (set b (at + i) (get_or w i 0)) ≡ put (drop i w) (at + i) b
+put_from w i at b h room =
+    let d : drop i w ≡ get_or w i 0 ∷ drop (i + 1) w = rw (add-one i) (drop-cons w i 0 h) in
+    let n : length (drop (i + 1) w) ≡ length w - (i + 1) = length-drop (i + 1) w in
+    let k : at + (i + 1) ≡ at + i + 1 = omega arith in
+    rw (k, d) (put_next (get_or w i 0) (drop (i + 1) w) (at + i) b (omega arith))
+
+pub put_rest_none : (w : List ℕ) (i at : ℕ) (b : List ℕ) → length w ≤ i → put (drop i w) (at + i) b ≡ b
+put_rest_none w i at b h = rw (drop_of_length-le w h) (put_none (at + i) b)
 
 -- a text of three parts, written one after another
 module _ {text : List ℕ} (r s t : List ℕ) (parts : text ≡ r ++ (s ++ t)) {at : ℕ} {b : List ℕ} (room : Room text at b) where
