@@ -1,5 +1,5 @@
 -- The words of a full block are those of every part that begins with it, since they look at no byte behind it. Assumes nothing.
-use Rattle.std.proofs.Common.{◌≡◌, ℕ, ◌<◌, ◌≤◌, Bool, List, length, take, sym, ap, ◌∙◌, arith, length-take-le, get_or-take}
+use Rattle.std.proofs.Common.{◌≡◌, ℕ, ◌<◌, ◌≤◌, Bool, List, length, take, refl, sym, ap, ◌∙◌, arith, length-take-le, get_or-take}
 use Rattle.bits.specs.Bits.{number}
 use Rattle.bits.specs.Laws.{number_same}
 use Rattle.classifier.specs.Classes.{byte_at}
@@ -8,9 +8,12 @@ use Rattle.blocks.specs.Sorted.{Sorted}
 use Rattle.blocks.specs.Words.{block_size, quotes_word, strings_word, opening_word, closing_word}
 use Rattle.blocks.specs.declared.Words.{Words}
 
+pub full_front : (s : List ℕ) {d : List ℕ} → 64 ≤ length s → d ≡ take 64 s → 64 ≤ length d
+full_front s long e = rw e (omega (arith, length-take-le 64 s))
+
 module _ (s : List ℕ) (long : 64 ≤ length s) (inside odd : Bool) where
   front_long : 64 ≤ length (take 64 s)
-  front_long = omega (arith, length-take-le 64 s)
+  front_long = full_front s long refl
 
   same : (j : ℕ) → j < 64 → byte_at (take 64 s) j ≡ byte_at s j
   unfolding byte_at

@@ -4,3 +4,4 @@ pub mod StringsFound
 pub mod Sort
 pub mod Apart
 pub mod Front
+pub mod Counting

@@ -3,3 +3,4 @@ pub mod Laws
 pub mod Examples
 pub mod Sorted
 pub mod Parts
+pub mod Counts

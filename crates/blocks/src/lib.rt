@@ -1,11 +1,12 @@
 // Sorts a block of at most 64 bytes into words of 64 bits, with the facts for the next block.
 #![tactic(auto)]
 
-ghost use Rattle.std.specs.Prelude.{◌≡◌, ℕ, ◌+◌, ◌-◌, ◌^◌, ◌<◌, ◌≤◌, false, length, count_ones};
+ghost use Rattle.std.specs.Prelude.{◌≡◌, ℕ, ◌+◌, ◌-◌, ◌^◌, ◌<◌, ◌≤◌, false, length};
 ghost use Rattle.bits.specs.Bits.{bit};
 ghost use Rattle.blocks.specs.Parts.{odd_run, parity, NotBoth, StringsFound, Padded};
 ghost use Rattle.blocks.specs.Words.{odd_before};
 ghost use Rattle.blocks.specs.Sorted.{Sorted};
+ghost use Rattle.blocks.specs.Counts.{counted_of, SortedCounted};
 
 use bits::has;
 pub use classifier::BLOCK;
@@ -30,15 +31,20 @@ pub struct Before {
     pub odd: bool,
 }
 
-// The words of a block with the numbers of its opening and closing brackets. No place has both.
+// The words of a block with the numbers of its opening and closing brackets.
 #[derive(Clone, Copy)]
 pub struct Counted {
     pub words: Words,
     pub opened: u32,
     pub closed: u32,
-    pub ghost opened_are: { opened ≡ count_ones words.opening },
-    pub ghost closed_are: { closed ≡ count_ones words.closing },
-    pub ghost apart: { NotBoth words.opening words.closing },
+}
+
+// The counted words of a block of some bytes. No place has both an opening and a closing bracket.
+#[derive(Clone, Copy)]
+pub struct CountedBlock {
+    pub counted: Counted,
+    pub ghost counted_is: { counted ≡ counted_of counted.words },
+    pub ghost apart: { NotBoth counted.words.opening counted.words.closing },
 }
 
 // The quotes that are real, the places inside strings, and whether an odd run of backslashes is last.
@@ -111,9 +117,8 @@ fn find_strings(quotes: u64, backslashes: u64, before: Before) -> Strings
 }
 
 // The words with the numbers of their brackets.
-fn count(words: Words) -> Counted
-    requires { NotBoth words.opening words.closing }
-    ensures { result.words ≡ words }
+pub fn count(words: Words) -> Counted
+    ensures { result ≡ counted_of words }
 {
     let opened = words.opening.count_ones();
     let closed = words.closing.count_ones();
@@ -124,10 +129,12 @@ fn count(words: Words) -> Counted
     }
 }
 
-// Sorts a full block, and counts its brackets: those outside strings.
-pub fn sort_full(block: &[u8; BLOCK], before: Before) -> Counted
-    ensures { Sorted block.now before.inside before.odd result.words }
+// Sorts the first 64 bytes of a part that has them, and counts their brackets: those outside strings.
+pub fn sort_full(rest: &[u8], before: Before) -> CountedBlock
+    requires { 64 ≤ length rest.now }
+    ensures { SortedCounted rest.now before.inside before.odd result.counted }
 {
+    let block = rest.first_chunk::<BLOCK>().unwrap();
     let c = classify(block);
     let k = find_strings(c.quotes, c.backslashes, before);
     let outside = !k.strings;
@@ -139,7 +146,9 @@ pub fn sort_full(block: &[u8; BLOCK], before: Before) -> Counted
         inside: has(k.strings, LAST),
         odd: k.odd,
     };
-    count(words)
+    CountedBlock {
+        counted: count(words),
+    }
 }
 
 // The bytes of a part shorter than a block, with zeros behind them.
@@ -174,7 +183,7 @@ fn sort_short(rest: &[u8], before: Before) -> Words
     ensures { Sorted rest.now before.inside before.odd result }
 {
     let full = sort_full(&padded(rest), before);
-    let w = full.words;
+    let w = full.counted.words;
     let mask = size_mask(rest.len());
     Words {
         quotes: w.quotes & mask,
@@ -193,14 +202,16 @@ pub fn sort_block(rest: &[u8], inside: bool, odd: bool) -> Words
 {
     let before = Before { inside, odd };
     match rest.first_chunk::<BLOCK>() {
-        Some(block) => sort_full(block, before).words,
+        Some(block) => sort_full(block, before).counted.words,
         None => sort_short(rest, before),
     }
 }
 
 // The same with the numbers of its brackets.
-pub fn sort_counted(rest: &[u8], before: Before) -> Counted
-    ensures { Sorted rest.now before.inside before.odd result.words }
+pub fn sort_counted(rest: &[u8], before: Before) -> CountedBlock
+    ensures { SortedCounted rest.now before.inside before.odd result.counted }
 {
-    count(sort_block(rest, before.inside, before.odd))
+    CountedBlock {
+        counted: count(sort_block(rest, before.inside, before.odd)),
+    }
 }

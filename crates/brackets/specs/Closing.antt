@@ -1,5 +1,5 @@
 -- What the steps past one block promise.
-use Rattle.std.specs.Prelude.{◌≡◌, true, false, ℕ, ◌+◌, ◌^◌, ◌<◌, ◌≤◌}
+use Rattle.std.specs.Prelude.{◌≡◌, false, ℕ, ◌+◌, ◌^◌, ◌<◌, ◌≤◌}
 use Rattle.bits.specs.Bits.{bit}
 use Rattle.brackets.specs.Depth.{depth_at}
 use Rattle.brackets.specs.declared.Found.{Found}

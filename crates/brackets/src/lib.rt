@@ -8,7 +8,7 @@ ghost use Rattle.brackets.specs.Depth.{after_place};
 ghost use Rattle.json_text.specs.Verdict.{max_bytes};
 
 use bits::{has, lowest};
-use blocks::Counted;
+use blocks::CountedBlock;
 
 // Where the last of some open brackets is closed.
 #[derive(Clone, Copy)]
@@ -58,14 +58,15 @@ pub fn find_closing(opening: u64, closing: u64, depth: usize) -> Found
 }
 
 // The same in a block whose brackets are counted: with fewer closing brackets than are open it is passed whole.
-pub fn pass_block(block: Counted, depth: usize) -> Found
+pub fn pass_block(block: CountedBlock, depth: usize) -> Found
     requires { (1 ≤ depth) × (depth ≤ max_bytes + 1) }
-    ensures { FindsClosing block.words.opening block.words.closing depth result }
+    ensures { FindsClosing block.counted.words.opening block.counted.words.closing depth result }
 {
-    let opened = block.opened as usize;
-    let closed = block.closed as usize;
+    let counted = block.counted;
+    let opened = counted.opened as usize;
+    let closed = counted.closed as usize;
     if closed < depth {
         return Found::Open(depth + opened - closed);
     }
-    find_closing(block.words.opening, block.words.closing, depth)
+    find_closing(counted.words.opening, counted.words.closing, depth)
 }

@@ -87,6 +87,9 @@ module _ (s : List ℕ) (inside odd : Bool) (near : ℕ) (behind : Carried insid
 
 -- ---- what is kept
 
+pub nothing_kept : (s : List ℕ) {end opening closing : ℕ} → end ≡ 0 → Kept s end opening closing
+nothing_kept s none some = absurd (some none)
+
 -- the block that ends at `end` and has the opening bracket just before `at`
 module _ (end opening closing at near : ℕ) (before : at < end) (in_it : end - at < 64) (near_is : near ≡ 64 - (end - at))
     (opens : bit (near - 1) opening ≡ true) {place : ℕ} (f : ClosesAt (opening / 2 ^ near) (closing / 2 ^ near) 1 place) {s : List ℕ} where

@@ -2,13 +2,13 @@
 #![tactic(auto)]
 
 ghost use Rattle.std.specs.Prelude.{◌≡◌, ◌≤◌, length};
-ghost use Rattle.blocks.specs.Sorted.{Sorted};
+ghost use Rattle.blocks.specs.Counts.{SortedCounted};
 ghost use Rattle.json_text.specs.Verdict.{max_bytes};
 ghost use Rattle.leap.specs.Brackets.{Leaves};
 ghost use Rattle.leap.specs.Passing.{AfterClosing, Kept, Near};
 
 use bits::has;
-use blocks::{BLOCK, Before, Counted, sort_counted, sort_full};
+use blocks::{BLOCK, Before, CountedBlock, sort_counted, sort_full};
 use brackets::Found;
 
 // The bytes of eight blocks, and of those before the last of them, at which one looks ahead: a container of fewer is left without a look.
@@ -29,8 +29,8 @@ fn zeros_ahead(rest: &[u8]) -> bool {
 
 // The words of the block at the front of a part. The sorter takes a full block straight away, but for one with zeros ahead: some use has
 // to be made of that look, or the compiler leaves it out.
-fn next_words(rest: &[u8], look: bool, before: Before) -> Counted
-    ensures { Sorted rest.now before.inside before.odd result.words }
+fn next_words(rest: &[u8], look: bool, before: Before) -> CountedBlock
+    ensures { SortedCounted rest.now before.inside before.odd result.counted }
 {
     match rest.first_chunk::<BLOCK>() {
         Some(block) if !(look && zeros_ahead(rest)) => sort_full(block, before),
@@ -81,7 +81,7 @@ impl<'a> Leaper<'a> {
         while i < record.len() {
             let look = (i - at) % AHEAD == LOOK;
             let block = next_words(&record[i..], look, before);
-            let w = block.words;
+            let w = block.counted.words;
             match brackets::pass_block(block, depth) {
                 Found::At(place) => {
                     self.end = i + BLOCK;

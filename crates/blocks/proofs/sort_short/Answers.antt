@@ -7,7 +7,7 @@ pub returns : goal.returns
 returns c =
     let short = c.requires in
     let pad = c.padded.ensures in
-    let sorted = c.sort_full-full.ensures in
+    let sorted = c.sort_full-full.ensures.sorted in
     let mask = c.size_mask-mask.ensures in
     record {
       quotes_are = quotes_cut _ _ short pad _ _ _ sorted _ mask;
