@@ -14,7 +14,8 @@ use pile::{Pile, Standing, is_dead};
 use scan::{scalar_end, skip_blanks};
 use walk::Coming;
 
-// Passes the container ahead, whose pair is begun, or enters it where it has items and is not dead. Its frame counts in either case.
+// Passes the container ahead, whose pair is begun, or enters it where it has items and is not dead. Its frame counts in either case, but not
+// where the record ends behind its bracket.
 fn container(
     v: Coming,
     wait: Option<usize>,
@@ -39,6 +40,7 @@ fn container(
         return;
     }
     let frames = framed(a.marks, v.marks, a.frames);
+    let peak = a.counts.peak;
     raise(&mut a.counts, frames);
     if is_dead(v.marks, a.counts.stop) {
         let end = leaper.leave(at + 1);
@@ -47,6 +49,7 @@ fn container(
     }
     let first = skip_blanks(record, at + 1);
     if first >= record.len() {
+        a.counts.peak = peak;
         a.lose(at);
         return;
     }

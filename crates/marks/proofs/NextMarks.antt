@@ -19,16 +19,17 @@ use Rattle.encoding.specs.Bytes.{same_numbers}
 use Rattle.encoding.specs.PointsLaws.{same_utf8}
 use Rattle.encoding.specs.Points.{Utf8Of}
 use Rattle.encoding.specs.Unescape.{unescaped}
-use Rattle.query_parser.specs.Holds.{Holds, every_at, named_at, positioned_at, name_at, position_at}
+use Rattle.query_parser.specs.Holds.{Holds, Fits, every_at, named_at, positioned_at, name_at, position_at}
 use Rattle.query.specs.Steps as S
 use Rattle.query.specs.Steps.{Step, Selector, is_deep}
 use Rattle.query.specs.StepsLaws.{no_step_lem}
+use Rattle.query.specs.Verdict.{max_query_bytes}
 use Rattle.query_parser.specs.declared.compiled.Kinds.{Kinds}
 use Rattle.select.specs.Nodes.{Label, member, element}
 use Rattle.select.specs.MarksStep.{step_hits}
 use Rattle.select.specs.Ways.{hits}
 use Rattle.automaton.specs.State.{next_mark, next_marks, pick_at, next_picked}
-use Rattle.marks.specs.Advances.{is_name, name_is, position_is, IsChild, child_is, asked_of, Chosen, Taken, Advances}
+use Rattle.marks.specs.Advances.{Named, AtHand, is_name, name_is, position_is, IsChild, child_is, asked_of, Chosen, Taken, Advances}
 use Rattle.marks.specs.declared.Child.{Child}
 use Rattle.marks.specs.declared.Child.TheVariants.{Member, Escaped, Element}
 
@@ -159,7 +160,31 @@ module _ (names : List ℕ) (k : Kinds) (operands : List ℕ) (m : ℕ) where
 pub live_kind : (m mask i : ℕ) → bit i (bit_and m mask) ≡ true → bit i mask ≡ true
 live_kind m mask i e = ((and-eq-true_iff (bit i m) (bit i mask)).0 (sym (bit_and_lem i m mask) ∙ e)).1
 
--- no steps: no marks, and no child is picked out
+-- the steps with a name have its bounds as their operands, and so have those of them that have a mark
+pub fits_named : (k : Kinds) (operands : List ℕ) → Fits k operands → Named k.named operands
+fits_named k operands fits i on = (fits.order i on, fits.within i on)
+
+pub named_live : (m mask : ℕ) (operands : List ℕ) → Named mask operands → Named (bit_and m mask) operands
+named_live m mask operands named i on = named i (live_kind m mask i on)
+
+-- what a child is compared with is at hand where the steps fit
+module _ (names : List ℕ) (k : Kinds) (operands : List ℕ) (fits : Fits k operands) (enough : max_query_bytes ≤ length names) (m asked : ℕ) where
+  pub child_at_hand : (child : Child) → asked ≡ asked_of k child → AtHand names operands child (bit_and m asked)
+  child_at_hand (Member name) e = (enough, named_live m asked operands (rw e (fits_named k operands fits)))
+  child_at_hand (Escaped name) e = (enough, named_live m asked operands (rw e (fits_named k operands fits)))
+  child_at_hand (Element j) e = tt
+
+-- no steps: no child is taken, there are no marks, and no child is picked out
+
+pub none_taken : (names : List ℕ) (k : Kinds) (operands : List ℕ) (m : ℕ) (l : Label) → k.count ≡ 0 → Taken names k operands m l 0
+unfolding step_hits
+none_taken names k operands m l e =
+    record {
+      taken = λ x h i.
+          bit-zero i
+          ∙ sym (ap (λ (o : Option Step). bit i m && step_hits o l) (no_step_lem x i (omega (arith, h.count))) ∙ and-false (bit i m));
+    }
+
 pub advances_none : (names : List ℕ) (k : Kinds) (operands : List ℕ) (m : ℕ) (l : Label) → k.count ≡ 0 → Advances names k operands m l 0 false
 unfolding next_marks number next_picked pick_at
 advances_none names k operands m l e =

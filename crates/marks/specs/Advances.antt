@@ -1,5 +1,5 @@
 -- What the functions on marks promise (document 01, "Marks, frames, the pile").
-use Rattle.std.specs.Prelude.{◌≡◌, List, Bool, true, ◌&&◌, ℕ, ◌≤◌, ltb, eqb, get_or}
+use Rattle.std.specs.Prelude.{◌≡◌, ⊤, List, Bool, true, ◌&&◌, ℕ, ◌≤◌, ltb, eqb, get_or, length}
 use Rattle.std.proofs.Math.ListN.{get_elem?}
 use Rattle.std.proofs.Math.Seq.{slice}
 use Rattle.bits.specs.Bits.{bit}
@@ -54,9 +54,11 @@ asked_of k (Member name) = k.named
 asked_of k (Escaped name) = k.named
 asked_of k (Element j) = k.positioned
 
--- these marks are of such steps alone
-abbrev pub AskedOf : Kinds → Child → (marks : ℕ) → Type 0
-AskedOf k child m = (i : ℕ) → bit i m ≡ true → bit i (asked_of k child) ≡ true
+-- what the steps with these marks compare such a child with is at hand: a name's bounds, within the names; a position always is
+abbrev pub AtHand : (names operands : List ℕ) → Child → (marks : ℕ) → Type 0
+AtHand names operands (Member name) m = (max_query_bytes ≤ length names) × Named m operands
+AtHand names operands (Escaped name) m = (max_query_bytes ≤ length names) × Named m operands
+AtHand names operands (Element j) m = ⊤
 
 -- of the marks of so many steps, those of which f holds
 abbrev pub Chosen : (count marks : ℕ) → (ℕ → Bool) → ℕ → Type 0

@@ -1,18 +1,22 @@
 // Marks as the bits of one 16-bit number: which steps take a child, and the child's marks.
 #![tactic(auto)]
 
-ghost use Rattle.std.specs.Prelude.{◌≡◌, true, ◌&&◌, ℕ, ◌≤◌, ◌<◌, eqb};
+ghost use Rattle.std.specs.Prelude.{◌≡◌, ◌&&◌, List, ℕ, ◌≤◌, ◌<◌, eqb, length};
 ghost use Rattle.std.proofs.Math.Seq.{slice};
 ghost use Rattle.bits.specs.Bits.{bit};
 ghost use Rattle.json_text.specs.Verdict.{max_depth};
-ghost use Rattle.query.specs.Verdict.{max_query_bytes, max_steps};
+ghost use Rattle.query.specs.Verdict.{max_steps};
 ghost use Rattle.query_parser.specs.Holds.{name_start_of, name_end_of, Fits};
 ghost use Rattle.select.specs.Nodes.{Label};
 ghost use Rattle.select.specs.Ways.{frame_if};
-ghost use Rattle.marks.specs.Advances.{AskedOf, asked_of, child_is, IsChild, Chosen, Taken, Advances};
+ghost use Rattle.marks.specs.Advances.{AtHand, asked_of, child_is, IsChild, Chosen, Taken, Advances};
 
 use names::{Names, same_decoded, same_written};
 use query_parser::{Kinds, name_end, name_start};
+
+mod taking;
+
+pub use taking::{taking_element, taking_escaped, taking_member, taking_nameless};
 
 // A query as a walk asks it: its names, the kinds of its steps, and their operands.
 #[derive(Drop)]
@@ -39,17 +43,73 @@ pub struct Advanced {
     pub picked: bool,
 }
 
-impl Query<'_> {
-    // The name whose bounds are this operand.
-    fn name(&self, operand: u64) -> &[u8]
-        requires { (name_start_of operand ≤ name_end_of operand) × (name_end_of operand ≤ max_query_bytes) }
-        ensures { result.now ≡ slice (name_start_of operand) (name_end_of operand) self.now.names.now }
-    {
-        let names = self.names;
-        let all: &[u8] = names;
-        &all[name_start(operand)..name_end(operand)]
-    }
+// The name whose bounds are this operand.
+fn name_of(names: &[u8], operand: u64) -> &[u8]
+    requires { (name_start_of operand ≤ name_end_of operand) × (name_end_of operand ≤ length names.now) }
+    ensures { result.now ≡ slice (name_start_of operand) (name_end_of operand) names.now }
+{
+    &names[name_start(operand)..name_end(operand)]
+}
 
+// Whether mark `i` is among the marks, and step `i` takes the child by its name or its position. Only a mark says that an operand is a name's.
+fn takes(names: &[u8], operands: &[u64; 16], marks: u16, i: usize, child: Child<'_>) -> bool
+    requires i_lt_max_steps { i < max_steps }
+    requires at_hand { AtHand names.now operands.now child marks }
+    ensures { result ≡ (bit i marks && child_is names.now operands.now child.entry i) }
+{
+    if marks >> i & 1 != 1 {
+        return false;
+    }
+    let operand = operands[i];
+    match child {
+        Child::Member(name) => same_written(name_of(names, operand), name),
+        Child::Escaped(name) => same_decoded(name_of(names, operand), name),
+        Child::Element(index) => operand == index as u64,
+    }
+}
+
+// Of marks of so many steps that take such a child by name or by position, those that take this one. Steps before the first mark and after
+// the last are not asked.
+fn chosen(names: &[u8], operands: &[u64; 16], count: usize, marks: u16, child: Child<'_>) -> u16
+    requires count_le_max_steps { count ≤ max_steps }
+    requires at_hand { AtHand names.now operands.now child marks }
+    ensures { Chosen count marks (child_is names.now operands.now child.entry) result }
+{
+    let mut hits: u16 = 0;
+    for i in bits::lowest(marks as u64) as usize..count {
+        if marks >> i == 0 {
+            return hits;
+        }
+        let taken = takes(names, operands, marks, i, child);
+        hits = bits::with_bit(hits, i, taken);
+    }
+    hits
+}
+
+// A child's marks, and whether it is picked out, from its parent's marks and the hits, those of them whose next step takes it.
+#[inline(always)]
+pub fn advance(kinds: Kinds, marks: u16, hits: u16) -> Advanced
+    requires { kinds.count ≤ max_steps }
+    ensures { (names operands : List ℕ) (l : Label) → Taken names kinds operands marks l hits
+        → Advances names kinds operands marks l result.marks result.picked }
+{
+    let count = kinds.count;
+    if count == 0 {
+        return Advanced {
+            marks: 0,
+            picked: false,
+        };
+    }
+    let last = count - 1;
+    let all = ((1u32 << count) - 1) as u16;
+    let picked = hits >> last & 1 == 1;
+    Advanced {
+        marks: (hits << 1 | (marks & kinds.deep)) & all,
+        picked,
+    }
+}
+
+impl Query<'_> {
     // The steps that can take such a child by its name or its position.
     fn asked(&self, child: Child<'_>) -> u16
         ensures { result ≡ asked_of self.now.kinds child.entry }
@@ -61,40 +121,6 @@ impl Query<'_> {
         }
     }
 
-    // Whether mark `i` is among the marks, and step `i` takes the child by its name or its position.
-    fn takes(&self, marks: u16, i: usize, child: Child<'_>) -> bool
-        requires i_lt_max_steps { i < max_steps }
-        requires asked { AskedOf self.now.kinds child marks }
-        ensures { result ≡ (bit i marks && child_is self.now.names.now self.now.operands child.entry i) }
-    {
-        if marks >> i & 1 != 1 {
-            return false;
-        }
-        let operand = self.operands[i];
-        match child {
-            Child::Member(name) => same_written(self.name(operand), name),
-            Child::Escaped(name) => same_decoded(self.name(operand), name),
-            Child::Element(index) => operand == index as u64,
-        }
-    }
-
-    // Of marks of steps that take such a child by name or by position, those that take this one. Steps before the first mark and after the last
-    // are not asked.
-    fn chosen(&self, marks: u16, child: Child<'_>) -> u16
-        requires asked { AskedOf self.now.kinds child marks }
-        ensures { Chosen self.now.kinds.count marks (child_is self.now.names.now self.now.operands child.entry) result }
-    {
-        let mut hits: u16 = 0;
-        for i in bits::lowest(marks as u64) as usize..self.kinds.count {
-            if marks >> i == 0 {
-                return hits;
-            }
-            let taken = self.takes(marks, i, child);
-            hits = bits::with_bit(hits, i, taken);
-        }
-        hits
-    }
-
     // Of the marks, those whose next step takes the child.
     fn taking(&self, marks: u16, child: Child<'_>) -> u16
         ensures { (l : Label) → IsChild child.entry l → Taken self.now.names.now self.now.kinds self.now.operands marks l result }
@@ -104,7 +130,8 @@ impl Query<'_> {
         if live == 0 {
             return every;
         }
-        every | self.chosen(live, child)
+        let names = self.names;
+        every | chosen(names, &self.operands, self.kinds.count, live, child)
     }
 
     // A child's marks, and whether it is picked out, from its parent's marks.
@@ -115,19 +142,9 @@ impl Query<'_> {
     {
         let count = self.kinds.count;
         if count == 0 {
-            return Advanced {
-                marks: 0,
-                picked: false,
-            };
+            return advance(self.kinds, marks, 0);
         }
-        let hits = self.taking(marks, child);
-        let last = count - 1;
-        let all = ((1u32 << count) - 1) as u16;
-        let picked = hits >> last & 1 == 1;
-        Advanced {
-            marks: (hits << 1 | (marks & self.kinds.deep)) & all,
-            picked,
-        }
+        advance(self.kinds, marks, self.taking(marks, child))
     }
 }
 

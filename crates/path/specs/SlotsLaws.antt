@@ -3,12 +3,19 @@
 use Rattle.std.specs.Prelude.{◌≡◌, true, false, length, get_or, drop}
 use Rattle.std.proofs.Math.Path.{refl}
 use Rattle.std.proofs.Common.{ap, ◌∙◌, arith, length-append, drop-cons}
+use Rattle.std.proofs.lemmas.Bool.{false≢true}
 use mathlib.Core.List.{List, [], ◌∷◌, ◌++◌}
-use Rattle.std.proofs.Math.Option.{Option, some, none}
-use Prim.Native.Nat.{ℕ, zero, suc, ◌+◌, ◌-◌, ◌≤◌, ◌<◌}
+use Rattle.std.proofs.Math.Option.{some, none}
+use Prim.Native.Nat.{ℕ, zero, suc, ◌+◌, ◌≤◌, ◌<◌}
 use Rattle.seek.specs.declared.keeper.KeptLink.{KeptLink}
-use Rattle.seek.specs.declared.keeper.KeptLink.TheVariants.{Position}
+use Rattle.seek.specs.declared.keeper.KeptLink.TheVariants.{Position, Name}
 use Rattle.path.specs.Slots.{slot_text, slot_half, slot_quote, SlotWithin, slots_text, or_slot, slots_half, SlotsWithin}
+
+-- only a name has half of a pair, and a quote stands before it
+pub half_quote : (s : List ℕ) (k : KeptLink) → SlotWithin s k → slot_half s k ≡ true → (x : ℕ) × (y : ℕ) × (k ≡ Name x y) × (1 ≤ x)
+unfolding slot_half
+half_quote s (Position j) w h = absurd (false≢true h)
+half_quote s (Name x y) w h = (x, y, refl, w.0)
 
 -- link number i
 abbrev pub link_at : List KeptLink → ℕ → KeptLink

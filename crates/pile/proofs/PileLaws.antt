@@ -8,7 +8,6 @@ use Rattle.query.specs.Steps.{Step}
 use Rattle.json_text.specs.Verdict.{max_depth}
 use Rattle.select.specs.Ways.{frame_if}
 use Rattle.automaton.specs.Tally.{Tally}
-use Rattle.pairs.specs.Pairs.{plus_one}
 use Rattle.pile.specs.FrameDepth.{narrowed, widened, depth_in}
 use Rattle.pile.proofs.Frames.{depth_at}
 use Rattle.pile.proofs.FrameDepthLaws.{frame_depth}
@@ -16,7 +15,7 @@ use Rattle.pile.specs.declared.Frame.{Frame}
 use Rattle.pile.specs.declared.Container.{Container}
 use Rattle.pile.specs.declared.Pile.{Pile}
 use Rattle.pile.specs.Pile.{no_frame, no_container, frame_at, container_at, levels, kept, counted, Sized, Open, Framed, shared, own, Level, ValuePassed, root, item}
-use Rattle.pile.specs.Moves.{Pops, other, topmost, Leaves}
+use Rattle.pile.specs.Moves.{Pops, other, topmost}
 
 -- the pile before the walk
 abbrev pub clear : Pile

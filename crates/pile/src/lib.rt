@@ -5,7 +5,7 @@ ghost use Rattle.std.specs.Prelude.{◌≡◌, ◌<◌, ◌≤◌};
 ghost use Rattle.json_text.specs.Verdict.{max_bytes, max_depth};
 ghost use Rattle.pile.specs.FrameDepth.{narrowed, widened};
 ghost use Rattle.pile.specs.Pile.{kept};
-ghost use Rattle.pile.specs.Moves.{Leaves, CountsOn, Lost, PassedTo, EnteredAt, Skipped};
+ghost use Rattle.pile.specs.Moves.{Pops, Leaves, CountsOn, Lost, PassedTo, EnteredAt, Skipped};
 
 use json_text::MAX_DEPTH;
 use pairs::{Counts, finish};
@@ -44,6 +44,13 @@ pub struct Container {
 pub struct Pile {
     pub frames: [Frame; MAX_DEPTH],
     pub containers: [Container; MAX_DEPTH],
+}
+
+// The frames and the marks around a container that is left.
+#[derive(Clone, Copy)]
+pub struct Around {
+    pub frames: usize,
+    pub marks: u16,
 }
 
 // A slot of the pile in which nothing has been kept.
@@ -88,6 +95,27 @@ impl Pile {
         };
     }
 
+    // The frames and the marks around a container at a depth that is left: what the topmost frame holds if it is the container's, and else the
+    // same.
+    pub fn pop_frame(&self, frames: usize, depth: usize, marks: u16) -> Around
+        requires { frames ≤ max_depth }
+        ensures { Pops self.now frames depth marks result.frames result.marks }
+    {
+        if frames == 0 {
+            return Around { frames, marks };
+        }
+        let top = frames - 1;
+        let frame = self.frames[top];
+        let level = widen_depth(frame.depth);
+        if level != depth {
+            return Around { frames, marks };
+        }
+        Around {
+            frames: top,
+            marks: frame.marks,
+        }
+    }
+
     // Counts one item more of the container at a depth.
     pub fn count_item(&mut self, depth: usize)
         requires { depth < max_depth }
@@ -100,24 +128,15 @@ impl Pile {
 }
 
 impl Standing {
-    // Out of the innermost container: the frames and the marks around it are what the topmost frame holds, if it is the container's, and else
-    // the same.
+    // Out of the innermost container: the frames and the marks around it are what the pile says of its depth.
     pub fn leave(&mut self, pile: &Pile)
         requires { (1 ≤ self.old.depth) × (self.old.frames ≤ max_depth) }
         ensures { Leaves pile.now self.old self.new }
     {
         self.depth -= 1;
-        if self.frames == 0 {
-            return;
-        }
-        let top = self.frames - 1;
-        let frame = pile.frames[top];
-        let level = widen_depth(frame.depth);
-        if level != self.depth {
-            return;
-        }
-        self.frames = top;
-        self.marks = frame.marks;
+        let around = pile.pop_frame(self.frames, self.depth, self.marks);
+        self.frames = around.frames;
+        self.marks = around.marks;
     }
 
     // The end of the walk at bytes that no tree explains.

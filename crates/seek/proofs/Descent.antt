@@ -10,6 +10,7 @@ use Rattle.std.specs.Prelude.{Result, Ok, Err}
 use Rattle.std.specs.Result.{result_ok}
 use Rattle.encoding.specs.Bytes.{put_blanks}
 use Rattle.encoding.specs.Class.{class_of}
+use Rattle.json_text.specs.Append.{value_positive}
 use Rattle.json_text.specs.Grammar.{Value, put_value, nesting, Tree, text}
 use Rattle.json_text.specs.Verdict.{max_depth}
 use Rattle.select.specs.Nodes.{size, root}
@@ -39,6 +40,16 @@ module _ (s : List ℕ) (o a n : ℕ) where
         onward = x.onward;
         within = x.within;
         exact = λ v rest way d q l. rw (x.exact v rest d q) (value_there o v way a h);
+      }
+
+  -- no value ends before the first byte
+  pub seeks_nothing : (e : ℕ) → EndsValue s a e → e ≡ 0 → SeeksValue s o a n (passed e)
+  unfolding size
+  seeks_nothing e x z =
+      record {
+        onward = x.onward;
+        within = x.within;
+        exact = λ v rest way d q l. absurd (omega (arith, x.exact v rest d q, value_positive v));
       }
 
   pub seeks_behind : (e : ℕ) → o < a → EndsValue s a e → SeeksValue s o a n (passed e)

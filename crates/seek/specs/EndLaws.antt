@@ -1,5 +1,5 @@
--- The end of the node that begins at an offset, among the nodes of a value. Nodes begin at rising places, so that none of a value behind the
--- offset begins there. Assumes nothing.
+-- The end of the node that begins at an offset, among the nodes of a value. A node has at least one byte, so an end is never 0, and nodes begin
+-- at rising places, so that none of a value behind the offset begins there. Assumes nothing.
 use Rattle.std.specs.Prelude.{◌≡◌, eqb}
 use Rattle.std.proofs.Math.Path.{refl, sym}
 use Rattle.std.proofs.Common.{ap, ◌∙◌, arith}
@@ -14,6 +14,7 @@ use Rattle.select.specs.Order.{Rises, firsts, visits_rise, first_before_end}
 use Rattle.select.specs.Visits.{Visit, Way, step, visit, visits, items_visits, node_visits}
 use Rattle.answers.specs.Finder.{end_among, or_zero}
 use Rattle.scan.specs.Scans.{IsScalar}
+use Rattle.seek.specs.Seeks.{end_or_zero}
 use Rattle.seek.specs.Among.{head_or, among, head_found, head_other, among_first, among_second}
 
 module _ (o : ℕ) where
@@ -39,7 +40,7 @@ module _ (o : ℕ) where
   found_second xs ys h = ends_among (xs ++ ys) ∙ among_second own_end o xs ys (sym (ends_among xs) ∙ h) ∙ sym (ends_among ys)
 
   -- no end is 0
-  pub none_found : (vs : List (Visit Way)) → or_zero (end_among vs o) ≡ 0 → end_among vs o ≡ none
+  pub none_found : (vs : List (Visit Way)) → end_or_zero vs o ≡ 0 → end_among vs o ≡ none
   unfolding end_among or_zero
   none_found [] h = refl
   none_found (v ∷ vs) h = go (eqb v.node.first o) h (none_found vs)
@@ -47,7 +48,7 @@ module _ (o : ℕ) where
       head_end : Bool → Option ℕ
       head_end b = elim b [ true ↦ some (end_of v.node) | false ↦ end_among vs o ]
 
-      go : (b : Bool) → or_zero (head_end b) ≡ 0 → (or_zero (end_among vs o) ≡ 0 → end_among vs o ≡ none) → head_end b ≡ none
+      go : (b : Bool) → or_zero (head_end b) ≡ 0 → (end_or_zero vs o ≡ 0 → end_among vs o ≡ none) → head_end b ≡ none
       go true h again = absurd (omega (arith, first_before_end v.node))
       go false h again = again h
 

@@ -6,7 +6,7 @@ use Rattle.json_text.specs.Grammar.{Kind, Value, Items, closing, put_value, put_
 use Rattle.json_text.specs.Verdict.{max_depth}
 use Rattle.select.specs.Nodes.{size}
 use Rattle.select.specs.Visits.{Visit, Way, step, visits, items_visits, nodes}
-use Rattle.answers.specs.Finder.{end_among}
+use Rattle.answers.specs.Finder.{end_among, or_zero}
 use Rattle.scan.specs.Shape.{solid, starts, stopped}
 use Rattle.scan.specs.Scans.{kind_if}
 use Rattle.seek.specs.declared.After.{After}
@@ -40,6 +40,10 @@ pub record NextItem (s : List ℕ) (a : ℕ) (r : Result ℕ After) : Type 0 whe
   pub within : place_of r ≤ length s
   pub closed : (k : Kind) (w : Blanks) (rest : List ℕ) → drop a s ≡ put_blanks w (closing k ∷ rest) → r ≡ passed (a + length w + 1)
   pub ahead : (w : Blanks) (rest : List ℕ) → drop a s ≡ put_blanks w (0x2C ∷ rest) → r ≡ Ok (a + length w + 1)
+
+-- the end of the node that begins at the offset, or 0 where none does
+abbrev pub end_or_zero : List (Visit Way) → ℕ → ℕ
+end_or_zero vs offset = or_zero (end_among vs offset)
 
 -- among these nodes: the end of the one that begins at the offset; or none does, and the place is that after them
 abbrev pub Seeks : List (Visit Way) → (offset after : ℕ) → Result ℕ After → Type 0

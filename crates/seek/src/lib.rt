@@ -19,22 +19,22 @@ pub use keeper::{Keeper, KeptLink};
 const COMMA: u8 = 0x2C;
 
 // What opens an object.
-const BRACE: u8 = 0x7B;
+pub const BRACE: u8 = 0x7B;
 
 // The place after what was looked through.
 #[derive(Clone, Copy)]
-struct After {
-    at: usize,
+pub struct After {
+    pub at: usize,
 }
 
 // Where an item is ahead in a container; where none is, the place after the closing bracket.
-type Ahead = Result<usize, After>;
+pub type Ahead = Result<usize, After>;
 
 // The end of the value that is looked for; where it was not found, the place after what was looked through.
 type Sought = Result<usize, After>;
 
 // The place after the value at `at`.
-fn value_end(record: &[u8], at: usize) -> usize
+pub fn value_end(record: &[u8], at: usize) -> usize
     requires { (at ≤ length «record».now) × (length «record».now ≤ max_bytes) }
     ensures { EndsValue «record».now at result }
 {
@@ -48,7 +48,7 @@ fn value_end(record: &[u8], at: usize) -> usize
 }
 
 // Passes the blanks behind an opening bracket: to the first item, or past the closing bracket.
-fn first_item(record: &[u8], at: usize) -> Ahead
+pub fn first_item(record: &[u8], at: usize) -> Ahead
     requires { at ≤ length «record».now }
     ensures { FirstItem «record».now at result }
 {
@@ -63,7 +63,7 @@ fn first_item(record: &[u8], at: usize) -> Ahead
 }
 
 // Passes the blanks behind an item and the byte after them: the comma before the next item, or the closing bracket.
-fn next_item(record: &[u8], at: usize) -> Ahead
+pub fn next_item(record: &[u8], at: usize) -> Ahead
     requires { at ≤ length «record».now }
     ensures { NextItem «record».now at result }
 {
@@ -105,7 +105,12 @@ fn seek_value<K: Keeper>(
     ensures keeps { KeepsValue K.keeps «record».now offset at levels keeper.old keeper.new result }
 {
     if at == offset {
-        return Ok(value_end(record, at));
+        let end = value_end(record, at);
+        // No value ends before the first byte.
+        if end == 0 {
+            return Err(After { at: end });
+        }
+        return Ok(end);
     }
     if at > offset {
         return Err(After {

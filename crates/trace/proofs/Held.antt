@@ -25,7 +25,7 @@ module _ {s : List ℕ} where
   held_all e nothing h = rw e none
   held_all e (one_more {u = u} {l = l} r slot put) h =
       let held = held_all e r (omega (arith, length-append u (l ∷ []))) in
-      rw (put (omega (arith, held-length held, length-append u (l ∷ [])))) (held_last held slot)
+      rw (put.0 (omega (arith, held-length held, length-append u (l ∷ [])))) (held_last held slot)
 
 -- from no link on
 pub traces_from : (s : List ℕ) (o : ℕ) (before after : List KeptLink) (end : Option ℕ) → before ≡ [] → FindsFrom s o end

@@ -2,7 +2,7 @@
 -- Assumes nothing.
 use Rattle.std.proofs.Common.{sym, ◌∙◌}
 use Rattle.std.proofs.lemmas.Result.{err_from_is_err_and}
-use Rattle.seek.proofs.Descent.{seeks_there, seeks_behind, seeks_outside, seeks_deeper, seeks_scalar, seeks_below}
+use Rattle.seek.proofs.Descent.{seeks_there, seeks_nothing, seeks_behind, seeks_outside, seeks_deeper, seeks_scalar, seeks_below}
 use Rattle.seek.proofs.Keeping.{keeps_there, keeps_below, keeps_item}
 use Rattle.seek.proofs.Turns.{going_first, empty_left, going_found, going_on, going_left}
 use Rattle.seek.proofs.+descent.Goals as goal
@@ -40,18 +40,22 @@ seek_inside-loop-end-preserved g t c = (
   c.in-Err.ensures.keeps ∙ c.loop-end.invariant.1,
 )
 
+pub seek_value-returns-then-end-eq0-clause-seeks :
+    goal.seek_value-returns-then-end-eq0-clause-seeks
+seek_value-returns-then-end-eq0-clause-seeks g t c = seeks_nothing _ _ _ _ _ c.value_end-end.ensures c.if-end-eq0.true
+
 pub seek_value-returns-then-at-offset-clause-seeks :
     goal.seek_value-returns-then-at-offset-clause-seeks
-seek_value-returns-then-at-offset-clause-seeks g t c = seeks_there _ _ _ _ _ c.if-at-offset.true c.value_end.ensures
+seek_value-returns-then-at-offset-clause-seeks g t c = seeks_there _ _ _ _ _ c.if-at-offset.true c.value_end-end.ensures
 
 pub seek_value-returns-then-at-offset-clause-keeps :
     goal.seek_value-returns-then-at-offset-clause-keeps
-seek_value-returns-then-at-offset-clause-keeps g t c = keeps_there _ _ _ _ _ _ c.value_end.result c.if-at-offset.true
+seek_value-returns-then-at-offset-clause-keeps g t c = keeps_there _ _ _ _ _ _ c.value_end-end.result c.if-at-offset.true
 
 pub seek_value-returns-then-at-offset-2-clause-seeks :
     goal.seek_value-returns-then-at-offset-2-clause-seeks
 seek_value-returns-then-at-offset-2-clause-seeks g t c =
-    seeks_behind _ _ _ _ _ c.if-at-offset-2.true c.value_end-then-at-offset-2.ensures
+    seeks_behind _ _ _ _ _ c.if-at-offset-2.true c.value_end.ensures
 
 pub seek_value-returns-then-at-record-clause-seeks :
     goal.seek_value-returns-then-at-record-clause-seeks

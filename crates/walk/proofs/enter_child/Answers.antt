@@ -1,5 +1,4 @@
 -- The item's value stands where the scanner says, and its marks follow from its name or its position. Assumes nothing.
-use mathlib.Core.Path.{refl}
 use Rattle.encoding.specs.BytesLaws.{part_is}
 use Rattle.walk.specs.Labels.{of_escaped, of_member, of_array, label_is}
 use Rattle.walk.proofs.enter_child.Goals.{then-object+then-item, then-object+else-item, else-object}

@@ -1,16 +1,15 @@
--- The bits of the child's marks are those of its next marks, cut to the number of steps; the last of the hits says whether it is picked out.
--- Assumes nothing.
-use Rattle.marks.proofs.NextMarks.{advances_none, mask_positive, mask_fits, advances}
+-- The hits are those of the child; without steps there are none. Assumes nothing.
+use Rattle.marks.proofs.NextMarks.{none_taken}
 use Rattle.marks.proofs.Query.advance.Goals as goal
 
+pub advance-requires : goal.advance-requires
+advance-requires c = c.args.self.now.fits.few
+
 pub returns-then-count-eq0 : goal.returns-then-count-eq0
-returns-then-count-eq0 c = λ l is. advances_none _ _ _ _ l c.if-count-eq0.true
+returns-then-count-eq0 c = λ l is. c.advance.ensures _ _ l (none_taken _ _ _ _ l c.if-count-eq0.true)
 
-pub overflow_sub-all : goal.overflow_sub-all
-overflow_sub-all c = mask_positive _ c.args.self.now.fits.few
-
-pub overflow_cast-all-2 : goal.overflow_cast-all-2
-overflow_cast-all-2 c = record { fits = mask_fits _ c.args.self.now.fits.few }
+pub advance-requires-2 : goal.advance-requires-2
+advance-requires-2 c = c.args.self.now.fits.few
 
 pub returns : goal.returns
-returns c = λ l is. advances _ _ _ c.args.self.now.fits.few c.if-count-eq0.false _ _ l (c.taking-hits.ensures l is)
+returns c = λ l is. c.advance-2.ensures _ _ l (c.taking.ensures l is)

@@ -3,7 +3,7 @@ use mathlib.Core.Bool.{◌&&◌}
 use Rattle.bits.specs.Bits.{bit}
 use Rattle.marks.specs.Advances.{child_is}
 use Rattle.marks.proofs.Hits.{Upto}
-use Rattle.marks.proofs.Query.chosen.Given as goal
+use Rattle.marks.proofs.chosen.Given as goal
 
 abbrev pub invariant-loop-i : goal.invariant-loop-i
-invariant-loop-i l = Upto (λ j. bit j l.marks && child_is l.self.names.now l.self.operands l.child j) l.self.kinds.count l.hits l.i
+invariant-loop-i l = Upto (λ j. bit j l.marks && child_is l.names l.operands l.child j) l.count l.hits l.i

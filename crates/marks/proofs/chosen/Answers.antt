@@ -1,6 +1,5 @@
-use native.Mathlib.Omega.{arith}
 use Rattle.marks.proofs.Hits.{upto_none, upto_more, upto_all, upto_off, below_lowest, none_left}
-use Rattle.marks.proofs.Query.chosen.Goals as goal
+use Rattle.marks.proofs.chosen.Goals as goal
 
 pub loop-i-init : goal.loop-i-init
 loop-i-init c = upto_none _ _ _ (below_lowest _ _ _ c.lowest-i.ensures)
