@@ -139,9 +139,10 @@ pub fn walk_jumping(names: &Names, steps: Compiled, record: &[u8], list: &mut [u
         kinds,
         operands,
     };
-    let frames = [NO_FRAME; MAX_DEPTH];
-    let containers = [NO_CONTAINER; MAX_DEPTH];
-    let mut pile = Pile { frames, containers };
+    let mut pile = Pile {
+        frames: [NO_FRAME; MAX_DEPTH],
+        containers: [NO_CONTAINER; MAX_DEPTH],
+    };
     let mut leaper = Leaper::new(record);
     let mut a = start(record, query.kinds.count);
     loop {

@@ -122,6 +122,7 @@ impl Query<'_> {
     }
 
     // Of the marks, those whose next step takes the child.
+    #[inline(always)]
     fn taking(&self, marks: u16, child: Child<'_>) -> u16
         ensures { (l : Label) → IsChild child.entry l → Taken self.now.names.now self.now.kinds self.now.operands marks l result }
     {

@@ -14,7 +14,7 @@ use std::marker::Model;
 
 // Slots for the links on the way to a value, one for each level that a record may have. The first ones are used, and the last link on the way
 // stands in the first of them.
-#[derive(Drop)]
+#[derive(Clone, Drop)]
 pub struct Slots {
     slots: [KeptLink; MAX_DEPTH],
     used: usize,
