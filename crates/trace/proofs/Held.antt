@@ -1,5 +1,5 @@
 -- Links that are put one behind the other, as many as there are slots at most, are held in this order. Assumes nothing.
-use Rattle.std.proofs.Common.{◌≡◌, refl, ap, ◌∙◌, List, [], ◌∷◌, ◌++◌, ℕ, ◌≤◌, length, length-append, arith}
+use Rattle.std.proofs.Common.{◌≡◌, refl, ap, ◌∙◌, List, [], ◌∷◌, ◌++◌, ℕ, ◌≤◌, ◌<◌, length, length-append, arith}
 use Rattle.std.specs.Prelude.{Option, Some, None}
 use mathlib.Core.List.{append-nil}
 use Rattle.std.proofs.Math.Option.{some}
@@ -21,20 +21,30 @@ module _ {s : List ℕ} where
   held_last none x = more x none
   held_last (more y h) x = more y (held_last h x)
 
-  held_all : {before after : List KeptLink} {u : Trail} → before ≡ [] → KeepsAll Puts s before u after → length u ≤ max_depth → HoldsTrail s after u
+-- a keeper that puts a link behind the others, if there is a slot for it
+module _ {keeps : List KeptLink → KeptLink → List KeptLink → Type 0}
+    (puts : (before : List KeptLink) (kept : KeptLink) (after : List KeptLink) → keeps before kept after
+    → length before < max_depth → after ≡ before ++ (kept ∷ [])) where
+  held_all : {s : List ℕ} {before after : List KeptLink} {u : Trail} → before ≡ [] → KeepsAll keeps s before u after → length u ≤ max_depth
+      → HoldsTrail s after u
   held_all e nothing h = rw e none
-  held_all e (one_more {u = u} {l = l} r slot put) h =
+  held_all e (one_more {u = u} {l = l} r slot kept) h =
       let held = held_all e r (omega (arith, length-append u (l ∷ []))) in
-      rw (put.0 (omega (arith, held-length held, length-append u (l ∷ [])))) (held_last held slot)
+      rw (puts _ _ _ kept (omega (arith, held-length held, length-append u (l ∷ [])))) (held_last held slot)
 
--- from no link on
+  -- from no link on
+  pub traces_by : (s : List ℕ) (o : ℕ) (before after : List KeptLink) (end : Option ℕ) → before ≡ [] → FindsFrom s o end
+      → KeepsFrom keeps s o before after end → TracesFrom s o after end
+  traces_by s o before after None e f k = record { finds = f; trail_is = tt }
+  traces_by s o before after (Some i) e f k =
+      record {
+        finds = f;
+        trail_is = λ t p q.
+            (let found = k t p q in
+            (found.links, found.found_is ∙ ap some (append-nil found.links), held_all e found.kept found.few));
+      }
+
+-- the same of a keeper that leaves full slots as they are besides
 pub traces_from : (s : List ℕ) (o : ℕ) (before after : List KeptLink) (end : Option ℕ) → before ≡ [] → FindsFrom s o end
     → KeepsFrom Puts s o before after end → TracesFrom s o after end
-traces_from s o before after None e f k = record { finds = f; trail_is = tt }
-traces_from s o before after (Some i) e f k =
-    record {
-      finds = f;
-      trail_is = λ t p q.
-          (let found = k t p q in
-          (found.links, found.found_is ∙ ap some (append-nil found.links), held_all e found.kept found.few));
-    }
+traces_from = traces_by (λ before kept after put. put.0)
